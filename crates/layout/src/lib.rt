@@ -1,0 +1,2 @@
+// The layouts of the machine's words, as bytes and numbers.
+pub mod word;
