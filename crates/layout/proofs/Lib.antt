@@ -1,2 +1,5 @@
 pub mod ByteLaws
+pub mod EntryLaws
 pub mod FieldLaws
+pub mod TestLaws
+pub mod TokenLaws

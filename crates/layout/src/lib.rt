@@ -1,2 +1,4 @@
-// The layouts of the machine's words, as bytes and numbers.
+// The layouts of the machine's words: bytes of numbers, tokens and table entries.
+pub mod entry;
+pub mod token;
 pub mod word;

@@ -1,0 +1,220 @@
+-- Entries: their four words, the same small fields in two groupings; and both round trips.
+-- Assumes nothing.
+use mathlib.Core.Path.{_≡_, refl, sym, _∙_, ap, subst}
+use mathlib.Core.Bool.{Bool, true, false}
+use mathlib.Core.List.{List, [], _∷_}
+use Prim.Native.Nat.{ℕ, zero, suc, _+_, _*_, _/_, _%_, _^_, _<_}
+use native.Mathlib.Nat.{div-one, mod-lt, mod-eq-of-lt, mul-one, add-zero, div-add-mod'}
+use native.Mathlib.Omega.{arith}
+use lib.Arith.{digits-lt}
+use lib.Pow.{pow-add, pow-pos, shr-lt, shr-mod}
+use lib.Dec.{eqb}
+use lib.ListN.{getD, drop}
+use Rattle.layout.specs.Fields.{bits, pack, unpack, Fit}
+use Rattle.layout.specs.Entry.{wordWidths, wordList, wordsNumber, bit, endWidths, endFields, endFrom, directWidths, directFields, directNumber, directFrom, directOf, indirectWidths, indirectFields, indirectNumber, indirectFrom, indirectOf, typeOf, packAs, unpackAs, entryNumber, entryOf, Storable, isFree, isDirect, isIndirect}
+use Rattle.layout.specs.declared.entry.Words.{Words}
+use Rattle.layout.specs.declared.entry.Entry.{Entry}
+use Rattle.layout.proofs.FieldLaws.{unpack-pack, pack-unpack, unpack-fit, regroup-pack, regroup-unpack, cut, groups}
+
+-- a field that runs over a word's end: its high part is the low i bits of x, its low part the j bits of y above the lowest k
+pub span-lt : (i j k x y : ℕ) → y < 2 ^ (j + k) → x % 2 ^ i * 2 ^ j + y / 2 ^ k < 2 ^ (i + j)
+span-lt i j k x y h = rw pow-add (digits-lt (mod-lt x (pow-pos i)) (shr-lt j k h))
+
+-- the small fields of what all entries end with, one by one
+abbrev ends : List (List ℕ)
+ends = (3 ∷ []) ∷ (1 ∷ []) ∷ (1 ∷ []) ∷ (1 ∷ []) ∷ (16 ∷ []) ∷ (32 ∷ []) ∷ []
+
+-- a direct entry's small fields, by field and by word
+abbrev directByField : List (List ℕ)
+directByField = (3 ∷ []) ∷ (32 ∷ []) ∷ (29 ∷ 3 ∷ []) ∷ (16 ∷ []) ∷ (45 ∷ 10 ∷ []) ∷ (54 ∷ 10 ∷ []) ∷ ends
+
+abbrev directByWord : List (List ℕ)
+directByWord = (3 ∷ 32 ∷ 29 ∷ []) ∷ (3 ∷ 16 ∷ 45 ∷ []) ∷ (10 ∷ 54 ∷ []) ∷ (10 ∷ endWidths) ∷ []
+
+pub direct-words : (e : Entry) {a b c d : ℕ}
+    → a ≡ pack (3 ∷ 32 ∷ 29 ∷ []) (1 ∷ e .base ∷ e .length / 8 ∷ [])
+    → b ≡ pack (3 ∷ 16 ∷ 45 ∷ []) (e .length % 8 ∷ e .count ∷ e .holder / 1024 ∷ [])
+    → c ≡ pack (10 ∷ 54 ∷ []) (e .holder % 1024 ∷ e .user / 1024 ∷ [])
+    → d ≡ pack (10 ∷ endWidths) (e .user % 1024 ∷ endFields e)
+    → pack wordWidths (a ∷ b ∷ c ∷ d ∷ []) ≡ directNumber e
+unfolding directNumber
+direct-words e ha hb hc hd =
+    let p : List ℕ =
+    1 ∷ e .base ∷ e .length / 8 ∷ e .length % 8 ∷ e .count ∷ e .holder / 1024 ∷ e .holder % 1024 ∷ e .user / 1024 ∷ e .user % 1024
+    ∷ endFields e in
+    let fields : groups directByField p ≡ directFields e = simp (mul-one, add-zero, div-add-mod') in
+    rw (ha, hb, hc, hd) (regroup-pack directByWord directByField p refl refl ∙ ap (pack directWidths) fields)
+
+-- an entry's words read as a direct entry, where m has what the last word ends with
+unfoldable pub directRead : Words → Entry → Entry
+directRead w m = record {
+  kind = m .kind;
+  base = w .a / 2 ^ 29 % 2 ^ 32;
+  length = w .a % 2 ^ 29 * 8 + w .b / 2 ^ 61;
+  count = w .b / 2 ^ 45 % 2 ^ 16;
+  holder = w .b % 2 ^ 45 * 1024 + w .c / 2 ^ 54;
+  user = w .c % 2 ^ 54 * 1024 + w .d / 2 ^ 54;
+  parent = m .parent;
+  zeros = m .zeros;
+  permissions = m .permissions;
+  locked = m .locked;
+  lockable = m .lockable;
+  cow = m .cow;
+  tag = m .tag;
+  nonce = m .nonce;
+}
+
+pub direct-read : (w : Words) {m : Entry} → Fit wordWidths (wordList w) → m ≡ endFrom 1 (unpack endWidths (w .d)) → directRead w m ≡ directOf (wordsNumber w)
+unfolding directRead directOf wordsNumber
+direct-read w h hm =
+    let same : directRead w (endFrom 1 (unpack endWidths (w .d))) ≡ directFrom (groups directByField (cut directByWord (wordList w))) =
+    simp (mul-one, add-zero, div-one, shr-mod 3 61 (h .1 .0), shr-mod 10 54 (h .1 .1 .0), shr-mod 10 54 (h .1 .1 .1 .0)) in
+    rw hm (same ∙ ap directFrom (sym (regroup-unpack directByWord directByField (wordList w) refl h)))
+
+-- an indirect entry, in the same way
+abbrev indirectByField : List (List ℕ)
+indirectByField = (3 ∷ []) ∷ (32 ∷ []) ∷ (29 ∷ 35 ∷ []) ∷ (29 ∷ 3 ∷ []) ∷ (16 ∷ []) ∷ (45 ∷ 10 ∷ []) ∷ ends
+
+abbrev indirectByWord : List (List ℕ)
+indirectByWord = (3 ∷ 32 ∷ 29 ∷ []) ∷ (35 ∷ 29 ∷ []) ∷ (3 ∷ 16 ∷ 45 ∷ []) ∷ (10 ∷ endWidths) ∷ []
+
+pub indirect-words : (e : Entry) {a b c d : ℕ}
+    → a ≡ pack (3 ∷ 32 ∷ 29 ∷ []) (2 ∷ e .base ∷ e .parent / 2 ^ 35 ∷ [])
+    → b ≡ pack (35 ∷ 29 ∷ []) (e .parent % 2 ^ 35 ∷ e .length / 8 ∷ [])
+    → c ≡ pack (3 ∷ 16 ∷ 45 ∷ []) (e .length % 8 ∷ e .count ∷ e .zeros / 1024 ∷ [])
+    → d ≡ pack (10 ∷ endWidths) (e .zeros % 1024 ∷ endFields e)
+    → pack wordWidths (a ∷ b ∷ c ∷ d ∷ []) ≡ indirectNumber e
+unfolding indirectNumber
+indirect-words e ha hb hc hd =
+    let p : List ℕ =
+    2 ∷ e .base ∷ e .parent / 2 ^ 35 ∷ e .parent % 2 ^ 35 ∷ e .length / 8 ∷ e .length % 8 ∷ e .count ∷ e .zeros / 1024 ∷ e .zeros % 1024
+    ∷ endFields e in
+    let fields : groups indirectByField p ≡ indirectFields e = simp (mul-one, add-zero, div-add-mod') in
+    rw (ha, hb, hc, hd) (regroup-pack indirectByWord indirectByField p refl refl ∙ ap (pack indirectWidths) fields)
+
+unfoldable pub indirectRead : Words → Entry → Entry
+indirectRead w m = record {
+  kind = m .kind;
+  base = w .a / 2 ^ 29 % 2 ^ 32;
+  length = w .b % 2 ^ 29 * 8 + w .c / 2 ^ 61;
+  count = w .c / 2 ^ 45 % 2 ^ 16;
+  holder = m .holder;
+  user = m .user;
+  parent = w .a % 2 ^ 29 * 2 ^ 35 + w .b / 2 ^ 29;
+  zeros = w .c % 2 ^ 45 * 1024 + w .d / 2 ^ 54;
+  permissions = m .permissions;
+  locked = m .locked;
+  lockable = m .lockable;
+  cow = m .cow;
+  tag = m .tag;
+  nonce = m .nonce;
+}
+
+pub indirect-read : (w : Words) {m : Entry} → Fit wordWidths (wordList w) → m ≡ endFrom 2 (unpack endWidths (w .d)) → indirectRead w m ≡ indirectOf (wordsNumber w)
+unfolding indirectRead indirectOf wordsNumber
+indirect-read w h hm =
+    let same : indirectRead w (endFrom 2 (unpack endWidths (w .d))) ≡ indirectFrom (groups indirectByField (cut indirectByWord (wordList w))) =
+    simp (mul-one, add-zero, div-one, shr-mod 35 29 (h .1 .0), shr-mod 3 61 (h .1 .1 .0), shr-mod 10 54 (h .1 .1 .1 .0)) in
+    rw hm (same ∙ ap indirectFrom (sym (regroup-unpack indirectByWord indirectByField (wordList w) refl h)))
+
+-- what all entries end with stands in the last word, and the type in the first
+pub end-read : (w : Words) → Fit wordWidths (wordList w) → unpack endWidths (wordsNumber w) ≡ unpack endWidths (w .d)
+unfolding wordsNumber
+end-read w h =
+    ap (drop 6) (regroup-unpack directByWord directByField (wordList w) refl h) ∙ simp (mul-one, add-zero)
+
+type-read : (w : Words) → Fit wordWidths (wordList w) → typeOf (wordsNumber w) ≡ w .a / 2 ^ 61
+unfolding wordsNumber
+type-read w h =
+    ap (λ l. getD l 0 0) (regroup-unpack directByWord directByField (wordList w) refl h) ∙ simp (mul-one, add-zero, shr-mod 3 61 (h .0))
+
+-- the number of an entry, and the entry of a number, where the type is k
+pub number-as : (e : Entry) {k : ℕ} → e .kind ≡ k → entryNumber e ≡ packAs k e
+unfolding entryNumber
+number-as e q = ap (λ (x : ℕ). packAs x e) q
+
+entry-as : (n : ℕ) {k : ℕ} → typeOf n ≡ k → entryOf n ≡ unpackAs k n
+unfolding entryOf
+entry-as n q = ap (λ (x : ℕ). unpackAs x n) q
+
+pub entry-read : (w : Words) → Fit wordWidths (wordList w) → {k : ℕ} → w .a / 2 ^ 61 ≡ k → entryOf (wordsNumber w) ≡ unpackAs k (wordsNumber w)
+entry-read w h q = entry-as (wordsNumber w) (type-read w h ∙ q)
+
+-- a type that is neither direct nor indirect
+pub unpack-other : (k n : ℕ) → (k ≡ 1 → ⊥) → (k ≡ 2 → ⊥) → unpackAs k n ≡ endFrom k (unpack endWidths n)
+unpack-other zero n a b = refl
+unpack-other (suc zero) n a b = absurd (a refl)
+unpack-other (suc (suc zero)) n a b = absurd (b refl)
+unpack-other (suc (suc (suc k))) n a b = refl
+
+pub pack-other : (k : ℕ) (e : Entry) → (k ≡ 1 → ⊥) → (k ≡ 2 → ⊥) → packAs k e ≡ 0
+pack-other zero e a b = refl
+pack-other (suc zero) e a b = absurd (a refl)
+pack-other (suc (suc zero)) e a b = absurd (b refl)
+pack-other (suc (suc (suc k))) e a b = refl
+
+-- ---- what was packed is read again
+
+bit-eqb : (b : Bool) → eqb (bit b) 1 ≡ b
+bit-eqb true = refl
+bit-eqb false = refl
+
+-- a number packed of the fields fs of type k is read as the entry that these fields make
+read-as : (ws fs : List ℕ) (from : List ℕ → Entry) (e : Entry) → Fit ws fs → from fs ≡ e → from (unpack ws (pack ws fs)) ≡ e
+read-as ws fs from e f h = ap from (unpack-pack ws fs f) ∙ h
+
+pub round : (e : Entry) → Storable e → entryOf (entryNumber e) ≡ e
+unfolding entryOf entryNumber directNumber indirectNumber directOf indirectOf
+round e (isFree i) = rw i refl
+round e (isDirect k p z f) =
+    let n : ℕ = pack directWidths (directFields e) in
+    let type : typeOf n ≡ 1 = ap (λ l. getD l 0 0) (unpack-pack directWidths (directFields e) f) in
+    let same : directFrom (directFields e) ≡ e = λ i. record { kind = sym k i; base = e .base; length = e .length; count = e .count; holder = e .holder; user = e .user; parent = sym p i; zeros = sym z i; permissions = e .permissions; locked = bit-eqb (e .locked) i; lockable = bit-eqb (e .lockable) i; cow = bit-eqb (e .cow) i; tag = e .tag; nonce = e .nonce } in
+    ap entryOf (number-as e k) ∙ entry-as n type ∙ read-as directWidths (directFields e) directFrom e f same
+round e (isIndirect k h u f) =
+    let n : ℕ = pack indirectWidths (indirectFields e) in
+    let type : typeOf n ≡ 2 = ap (λ l. getD l 0 0) (unpack-pack indirectWidths (indirectFields e) f) in
+    let same : indirectFrom (indirectFields e) ≡ e = λ i. record { kind = sym k i; base = e .base; length = e .length; count = e .count; holder = sym h i; user = sym u i; parent = e .parent; zeros = e .zeros; permissions = e .permissions; locked = bit-eqb (e .locked) i; lockable = bit-eqb (e .lockable) i; cow = bit-eqb (e .cow) i; tag = e .tag; nonce = e .nonce } in
+    ap entryOf (number-as e k) ∙ entry-as n type ∙ read-as indirectWidths (indirectFields e) indirectFrom e f same
+
+-- ---- what is read packs to the same number
+
+eqb-bit : (x : ℕ) → x < 2 → bit (eqb x 1) ≡ x
+eqb-bit zero h = refl
+eqb-bit (suc zero) h = refl
+eqb-bit (suc (suc x)) h = absurd (omega arith)
+
+end-back : (k n : ℕ) → endFields (endFrom k (unpack endWidths n)) ≡ unpack endWidths n
+end-back k n =
+    let h = unpack-fit endWidths n in
+    rw (eqb-bit _ (h .1 .0), eqb-bit _ (h .1 .1 .0), eqb-bit _ (h .1 .1 .1 .0))
+
+direct-fields : (n : ℕ) → typeOf n ≡ 1 → directFields (directOf n) ≡ unpack directWidths n
+unfolding directOf
+direct-fields n t = rw t (ap (λ l. 1 ∷ directOf n .base ∷ directOf n .length ∷ directOf n .count ∷ directOf n .holder ∷ directOf n .user ∷ l) (end-back 1 n))
+
+indirect-fields : (n : ℕ) → typeOf n ≡ 2 → indirectFields (indirectOf n) ≡ unpack indirectWidths n
+unfolding indirectOf
+indirect-fields n t = rw t (ap (λ l. 2 ∷ indirectOf n .base ∷ indirectOf n .parent ∷ indirectOf n .length ∷ indirectOf n .count ∷ indirectOf n .zeros ∷ l) (end-back 2 n))
+
+-- the type is one that has a layout
+pub data Laid (k : ℕ) : Type 0 where
+  one : k ≡ 1 → Laid k
+  two : k ≡ 2 → Laid k
+
+-- fields that were read of a number pack to it
+pack-as : (ws fs : List ℕ) (n : ℕ) → n < 2 ^ bits ws → fs ≡ unpack ws n → pack ws fs ≡ n
+pack-as ws fs n l h = ap (pack ws) h ∙ pack-unpack ws n ∙ mod-eq-of-lt l
+
+pub back : (n : ℕ) → n < 2 ^ 256 → Laid (typeOf n) → entryNumber (entryOf n) ≡ n
+unfolding directNumber indirectNumber directOf indirectOf
+back n l (one t) = ap entryNumber (entry-as n t) ∙ number-as (directOf n) refl ∙ pack-as directWidths (directFields (directOf n)) n l (direct-fields n t)
+back n l (two t) = ap entryNumber (entry-as n t) ∙ number-as (indirectOf n) refl ∙ pack-as indirectWidths (indirectFields (indirectOf n)) n l (indirect-fields n t)
+
+-- and can be packed with nothing lost
+pub read-storable : (n : ℕ) → Laid (typeOf n) → Storable (entryOf n)
+unfolding directOf indirectOf
+read-storable n (one t) =
+    subst Storable (sym (entry-as n t)) (isDirect refl refl refl (subst (Fit directWidths) (sym (direct-fields n t)) (unpack-fit directWidths n)))
+read-storable n (two t) =
+    subst Storable (sym (entry-as n t)) (isIndirect refl refl refl (subst (Fit indirectWidths) (sym (indirect-fields n t)) (unpack-fit indirectWidths n)))

@@ -1,0 +1,81 @@
+-- The round trips of tokens, at any widths, and so in each encoding: cited from the laws of fields.
+-- Assumes nothing.
+use mathlib.Core.Path.{_≡_, refl, sym, _∙_, ap}
+use mathlib.Core.Bool.{true}
+use mathlib.Core.List.{List, [], _∷_}
+use Prim.Native.Nat.{ℕ, zero, suc, _+_, _/_, _%_, _^_, _<_}
+use native.Mathlib.Nat.{add-zero, div-one, mod-eq-of-lt, mod-lt}
+use native.Mathlib.Omega.{arith}
+use lib.ListN.{getD}
+use lib.Pow.{pow-pos}
+use borrow.Author.Tests.{ltb-true}
+use Rattle.layout.specs.Fields.{bits, pack, unpack, Fit}
+use Rattle.layout.specs.Token.{numberWidth, offsetWidth, tokenWidths, tokenFields, tokenIn, namedIn, NamedFits, token, named, namedAs, encodingOf, fitsAs}
+use Rattle.layout.specs.declared.token.Named.{Named}
+use Rattle.layout.proofs.FieldLaws.{unpack-pack, pack-unpack}
+use Rattle.layout.proofs.TestLaws.{both}
+
+-- the fields of a word are its top bits and what `namedIn` reads
+unpack-named : (w o t : ℕ) → unpack (tokenWidths w o) t ≡ tokenFields (t / 2 ^ (16 + (w + o)) % 4) (namedIn w o t)
+unpack-named w o t = simp (add-zero, div-one)
+
+nameOf : List ℕ → Named
+nameOf l = record { tag = getD l 1 0; number = getD l 2 0; offset = getD l 3 0 }
+
+-- what was packed is read again, at any widths
+pub named-token : (w o e : ℕ) (n : Named) → Fit (tokenWidths w o) (tokenFields e n) → namedIn w o (tokenIn w o e n) ≡ n
+unfolding nameOf
+named-token w o e n h = ap nameOf (sym (unpack-named w o (tokenIn w o e n)) ∙ unpack-pack (tokenWidths w o) (tokenFields e n) h)
+
+-- what is read packs to the same word, at any widths
+pub token-named : (w o t : ℕ) → t < 2 ^ (2 + (16 + (w + o))) → tokenIn w o (t / 2 ^ (16 + (w + o)) % 4) (namedIn w o t) ≡ t
+token-named w o t h =
+    let all : t % 2 ^ bits (tokenWidths w o) ≡ t = rw add-zero (mod-eq-of-lt h) in
+    ap (pack (tokenWidths w o)) (sym (unpack-named w o t)) ∙ pack-unpack (tokenWidths w o) t ∙ all
+
+-- each encoding: the number and the offset share 46 bits
+widths-sum : (e : ℕ) → e < 4 → numberWidth e + offsetWidth e ≡ 46
+widths-sum zero h = refl
+widths-sum (suc zero) h = refl
+widths-sum (suc (suc zero)) h = refl
+widths-sum (suc (suc (suc zero))) h = refl
+widths-sum (suc (suc (suc (suc e)))) h = absurd (omega arith)
+
+pub named-of : (e : ℕ) (n : Named) → NamedFits e n → namedAs e (token e n) ≡ n
+named-of e n h = named-token (numberWidth e) (offsetWidth e) e n h
+
+pub encoding-of : (e : ℕ) (n : Named) → e < 4 → NamedFits e n → encodingOf (token e n) ≡ e
+encoding-of zero n l h = omega arith
+encoding-of (suc zero) n l h = omega arith
+encoding-of (suc (suc zero)) n l h = omega arith
+encoding-of (suc (suc (suc zero))) n l h = omega arith
+encoding-of (suc (suc (suc (suc e)))) n l h = absurd (omega arith)
+
+-- a token that was packed names what it was packed from
+pub read-packed : (e : ℕ) (n : Named) → e < 4 → NamedFits e n → named (token e n) ≡ n
+read-packed e n l h = rw (encoding-of e n l h) (named-of e n h)
+
+-- every 64-bit word, read and packed again in its encoding, is the same word
+pub packed-read : (t : ℕ) → t < 2 ^ 64 → token (encodingOf t) (named t) ≡ t
+packed-read t h =
+    let e : ℕ = encodingOf t in
+    let l : e < 4 = omega arith in
+    let top : t / 2 ^ (16 + (numberWidth e + offsetWidth e)) % 4 ≡ e = rw widths-sum (mod-eq-of-lt l) in
+    ap (λ x. tokenIn (numberWidth e) (offsetWidth e) x (named t)) (sym top) ∙ token-named (numberWidth e) (offsetWidth e) t (rw widths-sum h)
+
+-- what is read of any word fits its fields
+pub named-fits : (e t : ℕ) → e < 4 → NamedFits e (namedAs e t)
+named-fits e t h = (h, (mod-lt _ (pow-pos 16), (mod-lt _ (pow-pos (numberWidth e)), (mod-lt _ (pow-pos (offsetWidth e)), tt))))
+
+-- the test is the condition
+pub fits-holds : (e : ℕ) (n : Named) → fitsAs e n ≡ true → (e < 4) × NamedFits e n
+fits-holds e n h =
+    let offset = both _ _ h in
+    let number = both _ _ (offset .0) in
+    let tag = both _ _ (number .0) in
+    let l : e < 4 = ltb-true _ _ (tag .0) in
+    (l, (l, (ltb-true _ _ (tag .1), (ltb-true _ _ (number .1), (ltb-true _ _ (offset .1), tt)))))
+
+-- the fourth of four encodings
+pub fourth : (e : ℕ) → e < 4 → (e ≡ 0 → ⊥) → (e ≡ 1 → ⊥) → (e ≡ 2 → ⊥) → e ≡ 3
+fourth e h a b c = omega arith

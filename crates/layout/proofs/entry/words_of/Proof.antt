@@ -1,0 +1,19 @@
+-- `layout::entry::words_of` meets its contract: the type picks the arm.
+-- Assumes nothing.
+use mathlib.Core.Path.{_≡_, refl, sym, _∙_}
+use borrow.Author.Needs.{needs}
+use Rattle.layout.specs.Entry.{entryNumber, wordsNumber}
+use Rattle.layout.proofs.EntryLaws.{number-as, pack-other}
+use Rattle.layout.proofs.entry.words_of.Statement.{statement}
+use Rattle.layout.proofs.entry.words_of.Tie as tie
+
+pub words-of-spec : {M : Type 1} → statement M
+unfolding wordsNumber
+words-of-spec =
+    tie.close
+    (tie.spec
+    (λ c κs. search needs)
+    (λ c κs. search needs)
+    (λ c. c .direct-words .ensures ∙ sym (number-as _ (c .before .match .keys1)))
+    (λ c. c .indirect-words .ensures ∙ sym (number-as _ (c .before .match .keys2)))
+    (λ c. let e = c .before .args .e in sym (number-as e refl ∙ pack-other (e .kind) e (c .match .rest .0 .1) (c .match .rest .1))))

@@ -1,0 +1,162 @@
+-- Entries (01, "Entries: Table 2"). 256 bits in 32 bytes; byte 0 holds the top bits.
+-- An `Entry` has every field of every type. A field that the entry's type does not have is zero.
+-- Assumes nothing.
+use mathlib.Core.Path.{_≡_}
+use mathlib.Core.Bool.{Bool, true, false}
+use mathlib.Core.List.{List, [], _∷_}
+use Prim.Native.Nat.{ℕ, zero, suc, _<_, _^_}
+use lib.Dec.{eqb}
+use lib.ListN.{getD}
+use Rattle.layout.specs.Bytes.{bytes, number}
+use Rattle.layout.specs.Fields.{pack, unpack, Fit}
+use Rattle.layout.specs.declared.entry.Entry.{Entry}
+use Rattle.layout.specs.declared.entry.Words.{Words}
+
+abbrev pub bit : Bool → ℕ
+bit true = 1
+bit false = 0
+
+-- What entries of all types end with: R, W and X (one number: R 4, W 2, X 1, added), Locked, Lockable, copy-on-write (CoW), tag, nonce.
+abbrev pub endWidths : List ℕ
+endWidths = 3 ∷ 1 ∷ 1 ∷ 1 ∷ 16 ∷ 32 ∷ []
+
+abbrev pub endFields : Entry → List ℕ
+endFields e = e .permissions ∷ bit (e .locked) ∷ bit (e .lockable) ∷ bit (e .cow) ∷ e .tag ∷ e .nonce ∷ []
+
+-- Direct: type 1 (3 bits), base 32, length 32, count 16, lock holder 55, user 64.
+abbrev pub directWidths : List ℕ
+directWidths = 3 ∷ 32 ∷ 32 ∷ 16 ∷ 55 ∷ 64 ∷ endWidths
+
+abbrev pub directFields : Entry → List ℕ
+directFields e = 1 ∷ e .base ∷ e .length ∷ e .count ∷ e .holder ∷ e .user ∷ endFields e
+
+abbrev pub directFrom : List ℕ → Entry
+directFrom l = record {
+  kind = 1;
+  base = getD l 1 0;
+  length = getD l 2 0;
+  count = getD l 3 0;
+  holder = getD l 4 0;
+  user = getD l 5 0;
+  parent = 0;
+  zeros = 0;
+  permissions = getD l 6 0;
+  locked = eqb (getD l 7 0) 1;
+  lockable = eqb (getD l 8 0) 1;
+  cow = eqb (getD l 9 0) 1;
+  tag = getD l 10 0;
+  nonce = getD l 11 0;
+}
+
+-- Indirect: type 2, base, parent token 64, length, count, then zeros.
+abbrev pub indirectWidths : List ℕ
+indirectWidths = 3 ∷ 32 ∷ 64 ∷ 32 ∷ 16 ∷ 55 ∷ endWidths
+
+abbrev pub indirectFields : Entry → List ℕ
+indirectFields e = 2 ∷ e .base ∷ e .parent ∷ e .length ∷ e .count ∷ e .zeros ∷ endFields e
+
+abbrev pub indirectFrom : List ℕ → Entry
+indirectFrom l = record {
+  kind = 2;
+  base = getD l 1 0;
+  length = getD l 3 0;
+  count = getD l 4 0;
+  holder = 0;
+  user = 0;
+  parent = getD l 2 0;
+  zeros = getD l 5 0;
+  permissions = getD l 6 0;
+  locked = eqb (getD l 7 0) 1;
+  lockable = eqb (getD l 8 0) 1;
+  cow = eqb (getD l 9 0) 1;
+  tag = getD l 10 0;
+  nonce = getD l 11 0;
+}
+
+-- Any other type k: what it ends with, and nothing more.
+abbrev pub endFrom : ℕ → List ℕ → Entry
+endFrom k l = record {
+  kind = k;
+  base = 0;
+  length = 0;
+  count = 0;
+  holder = 0;
+  user = 0;
+  parent = 0;
+  zeros = 0;
+  permissions = getD l 0 0;
+  locked = eqb (getD l 1 0) 1;
+  lockable = eqb (getD l 2 0) 1;
+  cow = eqb (getD l 3 0) 1;
+  tag = getD l 4 0;
+  nonce = getD l 5 0;
+}
+
+-- a free entry: type 0, all zeros
+abbrev pub free : Entry
+free = endFrom 0 []
+
+-- the type of a 256-bit number: its top field, which every type has at the same place
+abbrev pub typeOf : ℕ → ℕ
+typeOf n = getD (unpack directWidths n) 0 0
+
+unfoldable pub directNumber : Entry → ℕ
+directNumber e = pack directWidths (directFields e)
+
+unfoldable pub indirectNumber : Entry → ℕ
+indirectNumber e = pack indirectWidths (indirectFields e)
+
+unfoldable pub directOf : ℕ → Entry
+directOf n = directFrom (unpack directWidths n)
+
+unfoldable pub indirectOf : ℕ → Entry
+indirectOf n = indirectFrom (unpack indirectWidths n)
+
+-- the number that an entry is packed to, by its type
+abbrev pub packAs : ℕ → Entry → ℕ
+packAs zero e = 0
+packAs (suc zero) e = directNumber e
+packAs (suc (suc zero)) e = indirectNumber e
+packAs (suc (suc (suc k))) e = 0
+
+unfoldable pub entryNumber : Entry → ℕ
+entryNumber e = packAs (e .kind) e
+
+-- the entry that a 256-bit number holds, by its type
+abbrev pub unpackAs : ℕ → ℕ → Entry
+unpackAs zero n = endFrom 0 (unpack endWidths n)
+unpackAs (suc zero) n = directOf n
+unpackAs (suc (suc zero)) n = indirectOf n
+unpackAs (suc (suc (suc k))) n = endFrom (suc (suc (suc k))) (unpack endWidths n)
+
+unfoldable pub entryOf : ℕ → Entry
+entryOf n = unpackAs (typeOf n) n
+
+-- the 32 bytes of an entry, and the entry of 32 bytes
+abbrev pub entryBytes : Entry → List ℕ
+entryBytes e = bytes 32 (entryNumber e)
+
+abbrev pub entryAt : List ℕ → Entry
+entryAt s = entryOf (number 32 s)
+
+-- the entry can be packed with nothing lost: its fields fit, and those that its type does not have are zero
+pub data Storable (e : Entry) : Type 0 where
+  isFree : e ≡ free → Storable e
+  isDirect : e .kind ≡ 1 → e .parent ≡ 0 → e .zeros ≡ 0 → Fit directWidths (directFields e) → Storable e
+  isIndirect : e .kind ≡ 2 → e .holder ≡ 0 → e .user ≡ 0 → Fit indirectWidths (indirectFields e) → Storable e
+
+-- the fields that the code's types leave room for more than their widths fit them
+pub record Fits (e : Entry) : Type 0 where
+  pub permissions : e .permissions < 8
+  pub holder : e .holder < 2 ^ 55
+  pub zeros : e .zeros < 2 ^ 55
+
+-- an entry as four words, the high word first
+abbrev pub wordWidths : List ℕ
+wordWidths = 64 ∷ 64 ∷ 64 ∷ 64 ∷ []
+
+abbrev pub wordList : Words → List ℕ
+wordList w = w .a ∷ w .b ∷ w .c ∷ w .d ∷ []
+
+unfoldable pub wordsNumber : Words → ℕ
+wordsNumber w = pack wordWidths (wordList w)

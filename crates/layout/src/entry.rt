@@ -1,0 +1,232 @@
+// Entries of the capability metadata table (Table 2): 32 bytes, byte 0 with the top bits.
+use crate::word::get;
+use crate::word::put;
+ghost use mathlib.Core.Path.{_≡_};
+ghost use mathlib.Core.List.{[], _∷_};
+ghost use Prim.Native.Nat.{_<_, _^_, _/_, _%_};
+ghost use lib.ListN.{length};
+ghost use Rattle.layout.specs.Fields.{pack, unpack};
+ghost use Rattle.layout.specs.Bytes.{bytes, number};
+ghost use Rattle.layout.specs.Entry.{bit, directNumber, directOf, endFields, endFrom, endWidths, entryBytes, entryNumber, entryOf, Fits, indirectNumber, indirectOf, wordsNumber};
+
+// An entry: every field of every type. A field that its type does not have is zero.
+pub struct Entry {
+    // The type: 0 free, 1 direct, 2 indirect.
+    pub kind: u8,
+    pub base: u32,
+    pub length: u32,
+    pub count: u16,
+    // The lock holder's task, of 55 bits: zero unless locked.
+    pub holder: u64,
+    // A device's own mark.
+    pub user: u64,
+    // The parent token of an indirect entry, in encoding 1.
+    pub parent: u64,
+    // The 55 bits that an indirect entry has as zeros, as they stand.
+    pub zeros: u64,
+    // R 4, W 2, X 1, added.
+    pub permissions: u8,
+    pub locked: bool,
+    pub lockable: bool,
+    // Copy-on-write.
+    pub cow: bool,
+    pub tag: u16,
+    pub nonce: u32,
+}
+
+// The four words of an entry, the high word first.
+pub struct Words {
+    pub a: u64,
+    pub b: u64,
+    pub c: u64,
+    pub d: u64,
+}
+
+// The words that 32 bytes hold.
+pub fn read_words(part: &[u8]) -> Words
+    requires { ⌜ length (now part) ≡ 32 ⌝ }
+    ensures { λ r. ⌜ wordsNumber r ≡ number 32 (now (part .entry)) ⌝ }
+{
+    Words {
+        a: get(&part[0..8]),
+        b: get(&part[8..16]),
+        c: get(&part[16..24]),
+        d: get(&part[24..32]),
+    }
+}
+
+// The words are stored as 32 bytes.
+pub fn write_words(part: &mut [u8], w: Words)
+    requires { ⌜ length (now part) ≡ 32 ⌝ }
+    ensures { λ _. ⌜ now (part .exit) ≡ bytes 32 (wordsNumber w) ⌝ }
+{
+    put(&mut part[0..8], w.a);
+    put(&mut part[8..16], w.b);
+    put(&mut part[16..24], w.c);
+    put(&mut part[24..32], w.d);
+}
+
+fn bit_of(b: bool) -> u64
+    ensures { λ r. ⌜ (r ≡ bit b) × (r < 2) ⌝ }
+{
+    if b { 1 } else { 0 }
+}
+
+fn flag_bits(locked: bool, lockable: bool, cow: bool) -> u64
+    ensures { λ r. ⌜ r ≡ pack (1 ∷ 1 ∷ 1 ∷ []) (bit locked ∷ bit lockable ∷ bit cow ∷ []) ⌝ }
+    ensures { λ r. ⌜ r < 8 ⌝ }
+{
+    (bit_of(locked) * 2 + bit_of(lockable)) * 2 + bit_of(cow)
+}
+
+// The last word of an entry: the low ten bits of a field, and what all entries end with.
+fn last_word(above: u64, e: Entry) -> u64
+    requires { ⌜ e .permissions < 8 ⌝ }
+    ensures { λ r. ⌜ r ≡ pack (10 ∷ endWidths) (above % 1024 ∷ endFields e) ⌝ }
+{
+    let high = (above % 1024 << 3) + (e.permissions as u64);
+    let flags = flag_bits(e.locked, e.lockable, e.cow);
+    let low = ((e.tag as u64) << 32) + (e.nonce as u64);
+    (((high << 3) + flags) << 48) + low
+}
+
+// The words of an entry, one by one: a field that runs over a word's end is cut in two.
+// The first has the type, the base and the high 29 bits of a field.
+fn first_word(kind: u64, base: u32, high: u64) -> u64
+    requires { ⌜ (kind < 8) × (high < 2 ^ 29) ⌝ }
+    ensures { λ r. ⌜ r ≡ pack (3 ∷ 32 ∷ 29 ∷ []) (kind ∷ base ∷ high ∷ []) ⌝ }
+{
+    (kind << 61) + ((base as u64) << 29) + high
+}
+
+// The low three bits of the length, the count and the high bits of a field of 55.
+fn middle_word(length: u32, count: u16, field: u64) -> u64
+    requires { ⌜ field < 2 ^ 55 ⌝ }
+    ensures { λ r. ⌜ r ≡ pack (3 ∷ 16 ∷ 45 ∷ []) (length % 8 ∷ count ∷ field / 1024 ∷ []) ⌝ }
+{
+    ((length as u64) % 8 << 61) + ((count as u64) << 45) + field / 1024
+}
+
+// The low bits of the lock holder and the high bits of the user.
+fn direct_c(holder: u64, user: u64) -> u64
+    ensures { λ r. ⌜ r ≡ pack (10 ∷ 54 ∷ []) (holder % 1024 ∷ user / 1024 ∷ []) ⌝ }
+{
+    (holder % 1024 << 54) + user / 1024
+}
+
+fn direct_words(e: Entry) -> Words
+    requires { ⌜ Fits e ⌝ }
+    ensures { λ r. ⌜ wordsNumber r ≡ directNumber e ⌝ }
+{
+    Words {
+        a: first_word(1, e.base, (e.length as u64) / 8),
+        b: middle_word(e.length, e.count, e.holder),
+        c: direct_c(e.holder, e.user),
+        d: last_word(e.user, e),
+    }
+}
+
+// The low bits of the parent token and the high bits of the length.
+fn indirect_b(parent: u64, length: u32) -> u64
+    ensures { λ r. ⌜ r ≡ pack (35 ∷ 29 ∷ []) (parent % 2 ^ 35 ∷ length / 8 ∷ []) ⌝ }
+{
+    (parent % (1 << 35) << 29) + (length as u64) / 8
+}
+
+fn indirect_words(e: Entry) -> Words
+    requires { ⌜ Fits e ⌝ }
+    ensures { λ r. ⌜ wordsNumber r ≡ indirectNumber e ⌝ }
+{
+    Words {
+        a: first_word(2, e.base, e.parent >> 35),
+        b: indirect_b(e.parent, e.length),
+        c: middle_word(e.length, e.count, e.zeros),
+        d: last_word(e.zeros, e),
+    }
+}
+
+// The words of an entry. A type above 2 has no layout here and gives those of a free entry.
+pub fn words_of(e: Entry) -> Words
+    requires { ⌜ Fits e ⌝ }
+    ensures { λ r. ⌜ wordsNumber r ≡ entryNumber e ⌝ }
+{
+    let kind = e.kind;
+    match kind {
+        1 => direct_words(e),
+        2 => indirect_words(e),
+        _ => Words {
+            a: 0,
+            b: 0,
+            c: 0,
+            d: 0,
+        },
+    }
+}
+
+// What entries of all types end with, in the last word d; all else is zero.
+fn end_of(kind: u8, d: u64) -> Entry
+    ensures { λ r. ⌜ r ≡ endFrom kind (unpack endWidths d) ⌝ }
+{
+    Entry {
+        kind,
+        base: 0,
+        length: 0,
+        count: 0,
+        holder: 0,
+        user: 0,
+        parent: 0,
+        zeros: 0,
+        permissions: ((d >> 51) % 8) as u8,
+        locked: (d >> 50) % 2 == 1,
+        lockable: (d >> 49) % 2 == 1,
+        cow: (d >> 48) % 2 == 1,
+        tag: ((d >> 32) % (1 << 16)) as u16,
+        nonce: (d % (1 << 32)) as u32,
+    }
+}
+
+// The direct entry that four words hold.
+fn direct_of(w: Words) -> Entry
+    ensures { λ r. ⌜ r ≡ directOf (wordsNumber w) ⌝ }
+{
+    let a = w.a;
+    let b = w.b;
+    let c = w.c;
+    let d = w.d;
+    let mut e = end_of(1, d);
+    e.base = ((a >> 29) % (1 << 32)) as u32;
+    e.length = (a % (1 << 29) * 8 + (b >> 61)) as u32;
+    e.count = ((b >> 45) % (1 << 16)) as u16;
+    e.holder = b % (1 << 45) * 1024 + (c >> 54);
+    e.user = c % (1 << 54) * 1024 + (d >> 54);
+    e
+}
+
+// The indirect entry that four words hold.
+fn indirect_of(w: Words) -> Entry
+    ensures { λ r. ⌜ r ≡ indirectOf (wordsNumber w) ⌝ }
+{
+    let a = w.a;
+    let b = w.b;
+    let c = w.c;
+    let d = w.d;
+    let mut e = end_of(2, d);
+    e.base = ((a >> 29) % (1 << 32)) as u32;
+    e.parent = a % (1 << 29) * (1 << 35) + (b >> 29);
+    e.length = (b % (1 << 29) * 8 + (c >> 61)) as u32;
+    e.count = ((c >> 45) % (1 << 16)) as u16;
+    e.zeros = c % (1 << 45) * 1024 + (d >> 54);
+    e
+}
+
+// The entry that four words hold.
+pub fn entry_of(w: Words) -> Entry
+    ensures { λ r. ⌜ r ≡ entryOf (wordsNumber w) ⌝ }
+{
+    let kind = w.a >> 61;
+    match kind {
+        1 => direct_of(w),
+        2 => indirect_of(w),
+        _ => end_of(kind as u8, w.d),
+    }
+}
