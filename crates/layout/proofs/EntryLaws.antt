@@ -8,13 +8,15 @@ use native.Mathlib.Nat.{div-one, mod-lt, mod-eq-of-lt, mul-one, add-zero, div-ad
 use native.Mathlib.Omega.{arith}
 use lib.Arith.{digits-lt}
 use lib.Pow.{pow-add, pow-pos, shr-lt, shr-mod}
-use lib.Dec.{eqb}
+use lib.Dec.{eqb, lit<, ltb}
 use lib.ListN.{getD, drop}
+use borrow.Author.Tests.{ltb-true}
 use Rattle.layout.specs.Fields.{bits, pack, unpack, Fit}
-use Rattle.layout.specs.Entry.{wordWidths, wordList, wordsNumber, bit, endWidths, endFields, endFrom, directWidths, directFields, directNumber, directFrom, directOf, indirectWidths, indirectFields, indirectNumber, indirectFrom, indirectOf, typeOf, packAs, unpackAs, entryNumber, entryOf, Storable, isFree, isDirect, isIndirect}
+use Rattle.layout.specs.Entry.{wordWidths, wordList, wordsNumber, bit, endWidths, endFields, endFrom, directWidths, directFields, directNumber, directFrom, directOf, indirectWidths, indirectFields, indirectNumber, indirectFrom, indirectOf, typeOf, packAs, unpackAs, entryNumber, entryOf, packable, Fits, Storable, isFree, isDirect, isIndirect}
 use Rattle.layout.specs.declared.entry.Words.{Words}
 use Rattle.layout.specs.declared.entry.Entry.{Entry}
-use Rattle.layout.proofs.FieldLaws.{unpack-pack, pack-unpack, unpack-fit, regroup-pack, regroup-unpack, cut, groups}
+use Rattle.layout.proofs.FieldLaws.{pack-lt, unpack-pack, pack-unpack, unpack-fit, regroup-pack, regroup-unpack, cut, groups}
+use Rattle.layout.proofs.TestLaws.{both}
 
 -- a field that runs over a word's end: its high part is the low i bits of x, its low part the j bits of y above the lowest k
 pub span-lt : (i j k x y : ℕ) → y < 2 ^ (j + k) → x % 2 ^ i * 2 ^ j + y / 2 ^ k < 2 ^ (i + j)
@@ -177,6 +179,12 @@ round e (isIndirect k h u f) =
     let same : indirectFrom (indirectFields e) ≡ e = λ i. record { kind = sym k i; base = e .base; length = e .length; count = e .count; holder = sym h i; user = sym u i; parent = e .parent; zeros = e .zeros; permissions = e .permissions; locked = bit-eqb (e .locked) i; lockable = bit-eqb (e .lockable) i; cow = bit-eqb (e .cow) i; tag = e .tag; nonce = e .nonce } in
     ap entryOf (number-as e k) ∙ entry-as n type ∙ read-as indirectWidths (indirectFields e) indirectFrom e f same
 
+pub number-lt : (e : Entry) → Storable e → entryNumber e < 2 ^ 256
+unfolding entryNumber directNumber indirectNumber
+number-lt e (isFree i) = rw i (lit< tt)
+number-lt e (isDirect k p z f) = subst (λ n. n < 2 ^ 256) (sym (number-as e k)) (pack-lt directWidths (directFields e) f)
+number-lt e (isIndirect k h u f) = subst (λ n. n < 2 ^ 256) (sym (number-as e k)) (pack-lt indirectWidths (indirectFields e) f)
+
 -- ---- what is read packs to the same number
 
 eqb-bit : (x : ℕ) → x < 2 → bit (eqb x 1) ≡ x
@@ -218,3 +226,11 @@ read-storable n (one t) =
     subst Storable (sym (entry-as n t)) (isDirect refl refl refl (subst (Fit directWidths) (sym (direct-fields n t)) (unpack-fit directWidths n)))
 read-storable n (two t) =
     subst Storable (sym (entry-as n t)) (isIndirect refl refl refl (subst (Fit indirectWidths) (sym (indirect-fields n t)) (unpack-fit indirectWidths n)))
+
+-- the test is the condition
+pub packable-fits : (e : Entry) → packable e ≡ true → Fits e
+packable-fits e h =
+    let zeros = both _ _ h in
+    let holder = both _ _ (zeros .0) in
+    let permissions = both (ltb (e .kind) 3) _ (holder .0) in
+    record { permissions = ltb-true _ _ (permissions .1); holder = ltb-true _ _ (holder .1); zeros = ltb-true _ _ (zeros .1) }

@@ -1,5 +1,7 @@
 pub mod ByteLaws
 pub mod EntryLaws
 pub mod FieldLaws
+pub mod FormLaws
+pub mod PermissionLaws
 pub mod TestLaws
 pub mod TokenLaws

@@ -2,14 +2,16 @@
 -- An `Entry` has every field of every type. A field that the entry's type does not have is zero.
 -- Assumes nothing.
 use mathlib.Core.Path.{_≡_}
-use mathlib.Core.Bool.{Bool, true, false}
+use mathlib.Core.Bool.{Bool, true, false, cond, _&&_}
 use mathlib.Core.List.{List, [], _∷_}
 use Prim.Native.Nat.{ℕ, zero, suc, _<_, _^_}
-use lib.Dec.{eqb}
-use lib.ListN.{getD}
+use lib.Dec.{eqb, ltb}
+use lib.ListN.{getD, length}
 use Rattle.layout.specs.Bytes.{bytes, number}
 use Rattle.layout.specs.Fields.{pack, unpack, Fit}
 use Rattle.layout.specs.declared.entry.Entry.{Entry}
+use Rattle.layout.specs.declared.entry.Held.{Held}
+use Rattle.layout.specs.declared.entry.Held.the-variants.{IsEntry, NotAnEntry}
 use Rattle.layout.specs.declared.entry.Words.{Words}
 
 abbrev pub bit : Bool → ℕ
@@ -145,7 +147,9 @@ pub data Storable (e : Entry) : Type 0 where
   isDirect : e .kind ≡ 1 → e .parent ≡ 0 → e .zeros ≡ 0 → Fit directWidths (directFields e) → Storable e
   isIndirect : e .kind ≡ 2 → e .holder ≡ 0 → e .user ≡ 0 → Fit indirectWidths (indirectFields e) → Storable e
 
--- the fields that the code's types leave room for more than their widths fit them
+-- ---- in code
+
+-- each field whose number in code has more bits than the field fits it
 pub record Fits (e : Entry) : Type 0 where
   pub permissions : e .permissions < 8
   pub holder : e .holder < 2 ^ 55
@@ -160,3 +164,21 @@ wordList w = w .a ∷ w .b ∷ w .c ∷ w .d ∷ []
 
 unfoldable pub wordsNumber : Words → ℕ
 wordsNumber w = pack wordWidths (wordList w)
+
+-- what a part of the table holds: an entry, if it has 32 bytes
+abbrev pickHeld : Bool → Held → Held → Held
+pickHeld true a b = a
+pickHeld false a b = b
+
+unfoldable pub held : List ℕ → Held
+held s = pickHeld (eqb (length s) 32) (IsEntry (entryAt s)) NotAnEntry
+
+-- an entry of one of the three types, whose fields fit, can be written to a part of 32 bytes, and to no other
+abbrev pub packable : Entry → Bool
+packable e = ltb (e .kind) 3 && ltb (e .permissions) 8 && ltb (e .holder) (2 ^ 55) && ltb (e .zeros) (2 ^ 55)
+
+abbrev pub writable : List ℕ → Entry → Bool
+writable s e = eqb (length s) 32 && packable e
+
+unfoldable pub written : List ℕ → Entry → List ℕ
+written s e = cond (writable s e) (entryBytes e) s

@@ -7,7 +7,7 @@ ghost use Prim.Native.Nat.{_<_, _^_, _/_, _%_};
 ghost use lib.ListN.{length};
 ghost use Rattle.layout.specs.Fields.{pack, unpack};
 ghost use Rattle.layout.specs.Bytes.{bytes, number};
-ghost use Rattle.layout.specs.Entry.{bit, directNumber, directOf, endFields, endFrom, endWidths, entryBytes, entryNumber, entryOf, Fits, indirectNumber, indirectOf, wordsNumber};
+ghost use Rattle.layout.specs.Entry.{bit, directNumber, directOf, endFields, endFrom, endWidths, entryAt, entryBytes, entryNumber, entryOf, Fits, free, held, indirectNumber, indirectOf, packable, wordsNumber, writable, written};
 
 // An entry: every field of every type. A field that its type does not have is zero.
 pub struct Entry {
@@ -42,8 +42,14 @@ pub struct Words {
     pub d: u64,
 }
 
+// What a part of the table holds: an entry, if it has the 32 bytes of one.
+pub enum Held {
+    IsEntry(Entry),
+    NotAnEntry,
+}
+
 // The words that 32 bytes hold.
-pub fn read_words(part: &[u8]) -> Words
+fn read_words(part: &[u8]) -> Words
     requires { ⌜ length (now part) ≡ 32 ⌝ }
     ensures { λ r. ⌜ wordsNumber r ≡ number 32 (now (part .entry)) ⌝ }
 {
@@ -56,7 +62,7 @@ pub fn read_words(part: &[u8]) -> Words
 }
 
 // The words are stored as 32 bytes.
-pub fn write_words(part: &mut [u8], w: Words)
+fn write_words(part: &mut [u8], w: Words)
     requires { ⌜ length (now part) ≡ 32 ⌝ }
     ensures { λ _. ⌜ now (part .exit) ≡ bytes 32 (wordsNumber w) ⌝ }
 {
@@ -146,7 +152,7 @@ fn indirect_words(e: Entry) -> Words
 }
 
 // The words of an entry. A type above 2 has no layout here and gives those of a free entry.
-pub fn words_of(e: Entry) -> Words
+fn words_of(e: Entry) -> Words
     requires { ⌜ Fits e ⌝ }
     ensures { λ r. ⌜ wordsNumber r ≡ entryNumber e ⌝ }
 {
@@ -220,7 +226,7 @@ fn indirect_of(w: Words) -> Entry
 }
 
 // The entry that four words hold.
-pub fn entry_of(w: Words) -> Entry
+fn entry_of(w: Words) -> Entry
     ensures { λ r. ⌜ r ≡ entryOf (wordsNumber w) ⌝ }
 {
     let kind = w.a >> 61;
@@ -229,4 +235,63 @@ pub fn entry_of(w: Words) -> Entry
         2 => indirect_of(w),
         _ => end_of(kind as u8, w.d),
     }
+}
+
+// The entry that 32 bytes hold.
+pub fn load(part: &[u8]) -> Entry
+    requires { ⌜ length (now part) ≡ 32 ⌝ }
+    ensures { λ r. ⌜ r ≡ entryAt (now (part .entry)) ⌝ }
+{
+    entry_of(read_words(part))
+}
+
+// The entry is stored as 32 bytes.
+pub fn store(part: &mut [u8], e: Entry)
+    requires { ⌜ length (now part) ≡ 32 ⌝ }
+    requires { ⌜ Fits e ⌝ }
+    ensures { λ _. ⌜ now (part .exit) ≡ entryBytes e ⌝ }
+{
+    write_words(part, words_of(e));
+}
+
+// The entry that a part of the table holds, whatever its length.
+pub fn read(part: &[u8]) -> Held
+    ensures { λ r. ⌜ r ≡ held (now (part .entry)) ⌝ }
+{
+    if part.len() == 32 {
+        Held::IsEntry(load(part))
+    } else {
+        Held::NotAnEntry
+    }
+}
+
+fn packable(e: Entry) -> bool
+    ensures { λ r. ⌜ r ≡ packable e ⌝ }
+{
+    (e.kind < 3) & (e.permissions < 8) & (e.holder < 1 << 55) & (e.zeros < 1 << 55)
+}
+
+// The entry is written to a part of 32 bytes if its type has a layout and its fields fit; else
+// the part keeps its bytes. Says whether it was written.
+pub fn write(part: &mut [u8], e: Entry) -> bool
+    ensures { λ r. ⌜ r ≡ writable (now (part .entry)) e ⌝ }
+    ensures { λ _. ⌜ now (part .exit) ≡ written (now (part .entry)) e ⌝ }
+{
+    if part.len() == 32 {
+        if packable(e) {
+            store(part, e);
+            true
+        } else {
+            false
+        }
+    } else {
+        false
+    }
+}
+
+// A free entry.
+pub fn free() -> Entry
+    ensures { λ r. ⌜ r ≡ free ⌝ }
+{
+    end_of(0, 0)
 }

@@ -1,0 +1,63 @@
+-- A table's rule, shown at every entry by one test that antt computes.
+-- Assumes nothing.
+use mathlib.Core.Path.{_≡_, refl, sym, _∙_, ap₂, subst}
+use mathlib.Core.Bool.{Bool, true, false, _&&_, Bool·beq}
+use mathlib.Core.List.{List, []}
+use Prim.Native.Nat.{ℕ, zero, suc, _/_, _%_, _<_}
+use native.Mathlib.Nat.{mod-lt}
+use native.Mathlib.Omega.{arith}
+use lib.Dec.{T, eqb, leb}
+use lib.ListN.{getD}
+use borrow.Author.Tests.{eqb-true, eqb-false}
+use Rattle.layout.specs.Permissions.{has, within}
+
+-- the test f holds at every number below n
+abbrev pub every : ℕ → (ℕ → Bool) → Bool
+every zero f = true
+every (suc n) f = f n && every n f
+
+left : (a b : Bool) → T (a && b) → T a
+left true b t = tt
+left false b t = t
+
+right : (a b : Bool) → T (a && b) → T b
+right true b t = t
+right false b t = absurd t
+
+pub below : (n : ℕ) (f : ℕ → Bool) → T (every n f) → (k : ℕ) → k < n → T (f k)
+below zero f t k h = absurd (omega arith)
+below (suc n) f t k h = go (eqb k n) refl (below n f (right (f n) (every n f) t) k)
+  where
+    go : (b : Bool) → eqb k n ≡ b → (k < n → T (f k)) → T (f k)
+    go true q r = subst (λ (m : ℕ). T (f m)) (sym (eqb-true k n q)) (left (f n) (every n f) t)
+    go false q r = let d = eqb-false k n q in r (omega arith)
+
+same : (a b : Bool) → T (Bool·beq a b) → a ≡ b
+same true true t = refl
+same false false t = refl
+same true false t = absurd t
+same false true t = absurd t
+
+-- the verdict that stands in a table's row and column, and the test of all 64
+abbrev verdict : List (List Bool) → ℕ → ℕ → Bool
+verdict rows wanted held = getD (getD rows wanted []) held false
+
+abbrev agrees : List (List Bool) → ℕ → ℕ → Bool
+agrees rows wanted held = Bool·beq (verdict rows wanted held) (within wanted held)
+
+-- only the low three bits of each are looked at
+within-low : (wanted held : ℕ) → within (wanted % 8) (held % 8) ≡ within wanted held
+unfolding within
+within-low p q =
+    let r : (x : ℕ) → x % 8 / 4 % 2 ≡ x / 4 % 2 = λ x. omega arith in
+    let w : (x : ℕ) → x % 8 / 2 % 2 ≡ x / 2 % 2 = λ x. omega arith in
+    let x : (x : ℕ) → x % 8 / 1 % 2 ≡ x / 1 % 2 = λ x. omega arith in
+    rw (r p, r q, w p, w q, x p, x q)
+
+pub rule : (rows : List (List Bool)) (wanted held : ℕ) → T (every 8 (λ p. every 8 (λ q. agrees rows p q))) → verdict rows (wanted % 8) (held % 8) ≡ within wanted held
+rule rows wanted held t =
+    let p : ℕ = wanted % 8 in
+    let q : ℕ = held % 8 in
+    same (verdict rows p q) (within p q)
+    (below 8 (λ q. agrees rows p q) (below 8 (λ p. every 8 (λ q. agrees rows p q)) t p (mod-lt wanted (omega arith))) q (mod-lt held (omega arith)))
+    ∙ within-low wanted held

@@ -1,0 +1,40 @@
+// Which entries are ill-formed in a memory of so many bytes.
+use crate::entry::Entry;
+use crate::token::encoding;
+ghost use mathlib.Core.Bool.{false};
+ghost use mathlib.Core.Path.{_≡_};
+ghost use Rattle.layout.specs.Form.{faultsOf, illFormed, orSome};
+
+fn ill_direct(memory: u64, e: Entry) -> bool
+    ensures { λ r. ⌜ r ≡ orSome false (faultsOf 1 memory e) ⌝ }
+{
+    let end = (e.base as u64) + (e.length as u64);
+    (e.length == 0) | (memory < end) | e.cow | (e.locked == (e.holder == 0))
+}
+
+fn ill_indirect(memory: u64, e: Entry) -> bool
+    ensures { λ r. ⌜ r ≡ orSome false (faultsOf 2 memory e) ⌝ }
+{
+    let end = (e.base as u64) + (e.length as u64);
+    let parent = encoding(e.parent);
+    (e.length == 0)
+        | (memory < end)
+        | e.cow
+        | e.locked
+        | e.lockable
+        | (e.zeros != 0)
+        | (parent != 1)
+}
+
+// The entry is ill-formed. A free one never is.
+pub fn ill_formed(memory: u64, e: Entry) -> bool
+    ensures { λ r. ⌜ r ≡ illFormed memory e ⌝ }
+{
+    let kind = e.kind;
+    match kind {
+        0 => false,
+        1 => ill_direct(memory, e),
+        2 => ill_indirect(memory, e),
+        _ => true,
+    }
+}
