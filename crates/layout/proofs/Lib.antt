@@ -1,5 +1,6 @@
 pub mod ByteLaws
 pub mod EntryLaws
+pub mod Examples
 pub mod FieldLaws
 pub mod FormLaws
 pub mod PermissionLaws

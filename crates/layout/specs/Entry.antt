@@ -141,6 +141,44 @@ entryBytes e = bytes 32 (entryNumber e)
 abbrev pub entryAt : List ℕ → Entry
 entryAt s = entryOf (number 32 s)
 
+-- a direct entry as it is issued: count 0, unlocked
+abbrev pub direct : (base length user permissions : ℕ) → Bool → (tag nonce : ℕ) → Entry
+direct b l u p lockable g ν = record {
+  kind = 1;
+  base = b;
+  length = l;
+  count = 0;
+  holder = 0;
+  user = u;
+  parent = 0;
+  zeros = 0;
+  permissions = p;
+  locked = false;
+  lockable = lockable;
+  cow = false;
+  tag = g;
+  nonce = ν;
+}
+
+-- an indirect entry as it is issued: count 1
+abbrev pub indirect : (base length parent permissions tag nonce : ℕ) → Entry
+indirect b l t p g ν = record {
+  kind = 2;
+  base = b;
+  length = l;
+  count = 1;
+  holder = 0;
+  user = 0;
+  parent = t;
+  zeros = 0;
+  permissions = p;
+  locked = false;
+  lockable = false;
+  cow = false;
+  tag = g;
+  nonce = ν;
+}
+
 -- the entry can be packed with nothing lost: its fields fit, and those that its type does not have are zero
 pub data Storable (e : Entry) : Type 0 where
   isFree : e ≡ free → Storable e

@@ -7,7 +7,7 @@ ghost use Prim.Native.Nat.{_<_, _^_, _/_, _%_};
 ghost use lib.ListN.{length};
 ghost use Rattle.layout.specs.Fields.{pack, unpack};
 ghost use Rattle.layout.specs.Bytes.{bytes, number};
-ghost use Rattle.layout.specs.Entry.{bit, directNumber, directOf, endFields, endFrom, endWidths, entryAt, entryBytes, entryNumber, entryOf, Fits, free, held, indirectNumber, indirectOf, packable, wordsNumber, writable, written};
+ghost use Rattle.layout.specs.Entry.{bit, direct, directNumber, directOf, endFields, endFrom, endWidths, entryAt, entryBytes, entryNumber, entryOf, Fits, free, held, indirect, indirectNumber, indirectOf, packable, wordsNumber, writable, written};
 
 // An entry: every field of every type. A field that its type does not have is zero.
 pub struct Entry {
@@ -294,4 +294,51 @@ pub fn free() -> Entry
     ensures { λ r. ⌜ r ≡ free ⌝ }
 {
     end_of(0, 0)
+}
+
+// A direct entry as it is issued: count 0, unlocked.
+pub fn direct(
+    base: u32,
+    length: u32,
+    user: u64,
+    permissions: u8,
+    lockable: bool,
+    tag: u16,
+    nonce: u32,
+) -> Entry
+    ensures { λ r. ⌜ r ≡ direct base length user permissions lockable tag nonce ⌝ }
+{
+    let mut e = free();
+    e.kind = 1;
+    e.base = base;
+    e.length = length;
+    e.user = user;
+    e.permissions = permissions;
+    e.lockable = lockable;
+    e.tag = tag;
+    e.nonce = nonce;
+    e
+}
+
+// An indirect entry as it is issued: count 1.
+pub fn indirect(
+    base: u32,
+    length: u32,
+    parent: u64,
+    permissions: u8,
+    tag: u16,
+    nonce: u32,
+) -> Entry
+    ensures { λ r. ⌜ r ≡ indirect base length parent permissions tag nonce ⌝ }
+{
+    let mut e = free();
+    e.kind = 2;
+    e.base = base;
+    e.length = length;
+    e.count = 1;
+    e.parent = parent;
+    e.permissions = permissions;
+    e.tag = tag;
+    e.nonce = nonce;
+    e
 }
