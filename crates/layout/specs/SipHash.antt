@@ -18,17 +18,17 @@ rotl x k = bitOr (x * 2 ^ k % 2 ^ 64) (x / 2 ^ (64 - k))
 -- a SipRound
 unfoldable pub sipRound : Lanes → Lanes
 sipRound v =
-    let a0 = add64 (v .v0) (v .v1) in
-    let b0 = bitXor (rotl (v .v1) 13) a0 in
-    let a1 = rotl a0 32 in
-    let c0 = add64 (v .v2) (v .v3) in
-    let d0 = bitXor (rotl (v .v3) 16) c0 in
-    let a2 = add64 a1 d0 in
-    let d1 = bitXor (rotl d0 21) a2 in
-    let c1 = add64 c0 b0 in
-    let b1 = bitXor (rotl b0 17) c1 in
-    let c2 = rotl c1 32 in
-    record { v0 = a2; v1 = b1; v2 = c2; v3 = d1 }
+    let v0 = add64 (v .v0) (v .v1) in
+    let v1 = bitXor (rotl (v .v1) 13) v0 in
+    let v0 = rotl v0 32 in
+    let v2 = add64 (v .v2) (v .v3) in
+    let v3 = bitXor (rotl (v .v3) 16) v2 in
+    let v0 = add64 v0 v3 in
+    let v3 = bitXor (rotl v3 21) v0 in
+    let v2 = add64 v2 v1 in
+    let v1 = bitXor (rotl v1 17) v2 in
+    let v2 = rotl v2 32 in
+    record { v0 = v0; v1 = v1; v2 = v2; v3 = v3 }
 
 -- the state that a key of two words starts with
 unfoldable pub start : ℕ → ℕ → Lanes

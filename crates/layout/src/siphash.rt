@@ -24,22 +24,17 @@ fn rotate_left(x: u64, k: u64) -> u64
 fn sip_round(v: Lanes) -> Lanes
     ensures { λ r. ⌜ r ≡ spec.sipRound v ⌝ }
 {
-    let a0 = wrapping_add_u64(v.v0, v.v1);
-    let b0 = rotate_left(v.v1, 13) ^ a0;
-    let a1 = rotate_left(a0, 32);
-    let c0 = wrapping_add_u64(v.v2, v.v3);
-    let d0 = rotate_left(v.v3, 16) ^ c0;
-    let a2 = wrapping_add_u64(a1, d0);
-    let d1 = rotate_left(d0, 21) ^ a2;
-    let c1 = wrapping_add_u64(c0, b0);
-    let b1 = rotate_left(b0, 17) ^ c1;
-    let c2 = rotate_left(c1, 32);
-    Lanes {
-        v0: a2,
-        v1: b1,
-        v2: c2,
-        v3: d1,
-    }
+    let v0 = wrapping_add_u64(v.v0, v.v1);
+    let v1 = rotate_left(v.v1, 13) ^ v0;
+    let v0 = rotate_left(v0, 32);
+    let v2 = wrapping_add_u64(v.v2, v.v3);
+    let v3 = rotate_left(v.v3, 16) ^ v2;
+    let v0 = wrapping_add_u64(v0, v3);
+    let v3 = rotate_left(v3, 21) ^ v0;
+    let v2 = wrapping_add_u64(v2, v1);
+    let v1 = rotate_left(v1, 17) ^ v2;
+    let v2 = rotate_left(v2, 32);
+    Lanes { v0, v1, v2, v3 }
 }
 
 fn start(k0: u64, k1: u64) -> Lanes
