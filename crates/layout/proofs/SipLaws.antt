@@ -64,5 +64,5 @@ absorb-more i m s v p q r = rw add-one (r ∙ ap₂ compress p (rw add-sub-cance
 
 -- the vector of the authors' paper: the message 00 01 .. 0e under the key 00 01 .. 0f
 vector : siphash 0x0706050403020100 0x0f0e0d0c0b0a0908 (tabulate 15 (λ i. i)) ≡ 0xa129ca6149be45e5
-unfolding siphash padded absorb word number lowNumber finish compress start sipRound rotl add64
+unfolding siphash padded absorb word number lowNumber finish compress sipRound rotl add64
 vector = refl

@@ -31,7 +31,7 @@ sipRound v =
     record { v0 = v0; v1 = v1; v2 = v2; v3 = v3 }
 
 -- the state that a key of two words starts with
-unfoldable pub start : ℕ → ℕ → Lanes
+abbrev pub start : ℕ → ℕ → Lanes
 start k0 k1 = record {
   v0 = bitXor k0 0x736f6d6570736575;
   v1 = bitXor k1 0x646f72616e646f6d;

@@ -1,6 +1,5 @@
 -- `layout::siphash::last_word` meets its contract: null bytes are what a list reads past its end.
 -- Assumes nothing.
-use mathlib.Core.Path.{_≡_}
 use borrow.Author.Needs.{needs}
 use Rattle.layout.specs.Bytes.{number, lowNumber}
 use Rattle.layout.proofs.SipLaws.{last-word}

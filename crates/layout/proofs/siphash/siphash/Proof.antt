@@ -1,6 +1,5 @@
 -- `layout::siphash::siphash` meets its contract: the whole words go in, then the last.
 -- Assumes nothing.
-use mathlib.Core.Path.{_≡_}
 use borrow.Author.Needs.{needs}
 use Rattle.layout.proofs.SipLaws.{hashed}
 use Rattle.layout.proofs.siphash.siphash.Statement.{statement}

@@ -1,6 +1,5 @@
 -- `layout::word::get_low` meets its contract: a list of eight bytes is the list of its elements.
 -- Assumes nothing.
-use mathlib.Core.Path.{_≡_}
 use borrow.Author.Needs.{needs}
 use Rattle.layout.specs.Bytes.{number, lowNumber}
 use Rattle.layout.proofs.ByteLaws.{by-elements}

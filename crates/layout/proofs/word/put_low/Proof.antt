@@ -1,6 +1,5 @@
 -- `layout::word::put_low` meets its contract: eight stores make the list of eight bytes.
 -- Assumes nothing.
-use mathlib.Core.Path.{_≡_}
 use native.Mathlib.Nat.{div-one}
 use native.Mathlib.Omega.{arith}
 use lib.ListN.{length-set}
