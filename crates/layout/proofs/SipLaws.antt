@@ -14,7 +14,7 @@ use Rattle.layout.specs.declared.siphash.Lanes.{Lanes}
 use Rattle.layout.proofs.ByteLaws.{tabulate}
 
 -- zeros after a list, up to n elements, are what the list reads past its end
-pub filled : (n : ℕ) (s t : List ℕ) → length s ≤ n → s ++ (replicate (n - length s) 0 ++ t) ≡ tabulate n (λ i. getD s i 0) ++ t
+filled : (n : ℕ) (s t : List ℕ) → length s ≤ n → s ++ (replicate (n - length s) 0 ++ t) ≡ tabulate n (λ i. getD s i 0) ++ t
 filled zero [] t h = refl
 filled zero (x ∷ s) t h = absurd (omega arith)
 filled (suc n) [] t h = rw sub-zero (ap (λ l. 0 ∷ l) (rw sub-zero at (filled n [] t (omega arith))))
