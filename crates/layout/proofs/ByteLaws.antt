@@ -1,13 +1,13 @@
 -- The bytes of numbers: round trips, and a list by its elements.
 -- Assumes nothing.
 use mathlib.Core.Path.{_≡_, refl, sym, _∙_, ap, ap₂}
-use mathlib.Core.List.{List, [], _∷_}
+use mathlib.Core.List.{List, [], _∷_, reverse-reverse}
 use Prim.Native.Nat.{ℕ, zero, suc, _^_, _<_}
 use native.Mathlib.Nat.{mod-eq-of-lt, zero-div, zero-mod}
 use lib.ListN.{length, getD, take, drop, replicate}
 use lib.Seq.{drop-drop}
 use borrow.Rule.Slice.PartMut.{putMid}
-use Rattle.layout.specs.Bytes.{bytes, number}
+use Rattle.layout.specs.Bytes.{bytes, lowBytes, lowNumber, number}
 use Rattle.layout.specs.Entry.{wordWidths, wordList, wordsNumber}
 use Rattle.layout.specs.Fields.{bits, pack, Fit}
 use Rattle.layout.specs.declared.entry.Words.{Words}
@@ -35,6 +35,11 @@ pub bytes-number : (k : ℕ) (s : List ℕ) → Fit (replicate k 8) s → bytes 
 unfolding bytes number
 bytes-number k s h = unpack-pack (replicate k 8) s h
 
+-- the same, the low byte first
+pub low-round : (k n : ℕ) → n < 2 ^ bits (replicate k 8) → lowNumber k (lowBytes k n) ≡ n
+unfolding lowBytes lowNumber
+low-round k n h = rw reverse-reverse (number-bytes k n h)
+
 -- the bytes of zero are zeros
 pub bytes-zero : (k : ℕ) → bytes k 0 ≡ replicate k 0
 unfolding bytes
@@ -45,7 +50,10 @@ bytes-zero (suc k) = ap₂ _∷_ (rw (zero-div, zero-mod)) (bytes-zero k)
 abbrev eights : List (List ℕ)
 eights = replicate 4 (replicate 8 8)
 
-bytes-words : (ws : List ℕ) → Fit wordWidths ws → bytes 32 (pack wordWidths ws) ≡ cut eights ws
+abbrev pub cut-eights : List ℕ → List ℕ
+cut-eights ws = cut eights ws
+
+pub bytes-words : (ws : List ℕ) → Fit wordWidths ws → bytes 32 (pack wordWidths ws) ≡ cut-eights ws
 unfolding bytes
 bytes-words ws h = unpack-cut eights (pack wordWidths ws) ∙ ap (cut eights) (unpack-pack wordWidths ws h)
 

@@ -4,5 +4,7 @@ pub mod Examples
 pub mod FieldLaws
 pub mod FormLaws
 pub mod PermissionLaws
+pub mod SipLaws
+pub mod TagLaws
 pub mod TestLaws
 pub mod TokenLaws

@@ -152,7 +152,7 @@ fn indirect_words(e: Entry) -> Words
 }
 
 // The words of an entry. A type above 2 has no layout here and gives those of a free entry.
-fn words_of(e: Entry) -> Words
+pub fn words_of(e: Entry) -> Words
     requires { ⌜ Fits e ⌝ }
     ensures { λ r. ⌜ wordsNumber r ≡ entryNumber e ⌝ }
 {
@@ -321,14 +321,7 @@ pub fn direct(
 }
 
 // An indirect entry as it is issued: count 1.
-pub fn indirect(
-    base: u32,
-    length: u32,
-    parent: u64,
-    permissions: u8,
-    tag: u16,
-    nonce: u32,
-) -> Entry
+pub fn indirect(base: u32, length: u32, parent: u64, permissions: u8, tag: u16, nonce: u32) -> Entry
     ensures { λ r. ⌜ r ≡ indirect base length parent permissions tag nonce ⌝ }
 {
     let mut e = free();

@@ -1,6 +1,8 @@
-// The layouts of the machine's words: bytes of numbers, tokens and table entries.
+// The layouts of the machine's words (bytes of numbers, tokens, table entries) and SipHash.
 pub mod entry;
 pub mod form;
 pub mod permissions;
+pub mod siphash;
+pub mod tag;
 pub mod token;
 pub mod word;

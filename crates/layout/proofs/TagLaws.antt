@@ -1,0 +1,45 @@
+-- The 40 bytes of a tag are five words for SipHash.
+-- Assumes nothing.
+use mathlib.Core.Path.{_≡_, refl, sym, _∙_, ap}
+use mathlib.Core.List.{List, _++_}
+use Prim.Native.Nat.{ℕ, _/_, _%_, _^_, _<_}
+use lib.ListN.{length}
+use Rattle.layout.specs.Bytes.{bytes, lowBytes, lowNumber, number}
+use Rattle.layout.specs.Entry.{entryNumber, wordList, wordsNumber, wordWidths}
+use Rattle.layout.specs.Fields.{Fit, pack}
+use Rattle.layout.specs.SipHash.{absorb, compress, finish, padded, siphash, start, word}
+use Rattle.layout.specs.Tag.{retag, tagOf}
+use Rattle.layout.specs.declared.entry.Entry.{Entry}
+use Rattle.layout.specs.declared.entry.Words.{Words}
+use Rattle.layout.specs.declared.siphash.Lanes.{Lanes}
+use Rattle.layout.proofs.ByteLaws.{bytes-words, cut-eights, low-round}
+use Rattle.layout.proofs.SipLaws.{hashed}
+
+-- the word as SipHash reads its bytes
+abbrev pub low : ℕ → ℕ
+low w = lowNumber 8 (bytes 8 w)
+
+abbrev pub fiveWords : Lanes → Words → ℕ → Lanes
+fiveWords v w n = compress (compress (compress (compress (compress v (low (w .a))) (low (w .b))) (low (w .c))) (low (w .d))) n
+
+-- 32 bytes of four words and 8 of a number: five words, and a sixth with the length
+abbrev message : Words → ℕ → List ℕ
+message w n = cut-eights (wordList w) ++ lowBytes 8 n
+
+five : (w : Words) (n : ℕ) → length (message w n) / 8 ≡ 5
+unfolding bytes lowBytes
+five w n = refl
+
+sixth : (w : Words) (n : ℕ) → word (padded (message w n)) 5 ≡ 0x2800000000000000
+unfolding bytes lowBytes lowNumber number padded word
+sixth w n = refl
+
+absorbed : (w : Words) (n : ℕ) (v : Lanes) → n < 2 ^ 64 → absorb 5 (message w n) v ≡ fiveWords v w n
+unfolding absorb word bytes lowBytes lowNumber number
+absorbed w n v l = ap (compress (compress (compress (compress (compress v (low (w .a))) (low (w .b))) (low (w .c))) (low (w .d)))) (low-round 8 n l)
+
+pub tagged : (k0 k1 n : ℕ) (w : Words) (e : Entry) → Fit wordWidths (wordList w) → n < 2 ^ 64 → wordsNumber w ≡ entryNumber (retag e 0)
+    → tagOf k0 k1 e n ≡ finish (compress (fiveWords (start k0 k1) w n) 0x2800000000000000) % 65536
+unfolding tagOf wordsNumber
+tagged k0 k1 n w e f l h =
+    rw (← h, bytes-words (wordList w) f, hashed k0 k1 (message w n), five w n, sixth w n, absorbed w n (start k0 k1) l)

@@ -1,0 +1,26 @@
+-- `layout::siphash::sip_round` meets its contract: each call is a step of the definition.
+-- Assumes nothing.
+use borrow.Author.Needs.{needs}
+use Rattle.layout.specs.SipHash.{sipRound}
+use Rattle.layout.proofs.siphash.sip_round.Statement.{statement}
+use Rattle.layout.proofs.siphash.sip_round.Tie as tie
+
+returns : tie.Need-returns
+unfolding sipRound
+returns c = cc
+
+pub sip-round-spec : {M : Type 1} → statement M
+sip-round-spec =
+    tie.close
+    (tie.spec
+    (λ c κs. search needs)
+    (λ c κs. search needs)
+    (λ c κs. search needs)
+    (λ c κs. search needs)
+    (λ c κs. search needs)
+    (λ c κs. search needs)
+    (λ c κs. search needs)
+    (λ c κs. search needs)
+    (λ c κs. search needs)
+    (λ c κs. search needs)
+    returns)

@@ -1,0 +1,35 @@
+-- Tags (01, "Issuing"): "The tag is the low 16 bits of SipHash-2-4 over 40 bytes: the entry as issued with tag 0, then the number as 8 bytes,
+-- low byte first."
+-- Assumes nothing.
+use mathlib.Core.List.{List, _++_}
+use Prim.Native.Nat.{ℕ, _%_, _^_}
+use Rattle.layout.specs.Bytes.{lowBytes}
+use Rattle.layout.specs.Entry.{entryBytes}
+use Rattle.layout.specs.SipHash.{siphash}
+use Rattle.layout.specs.declared.entry.Entry.{Entry}
+
+-- the entry with another tag
+abbrev pub retag : Entry → ℕ → Entry
+retag e g = record {
+  kind = e .kind;
+  base = e .base;
+  length = e .length;
+  count = e .count;
+  holder = e .holder;
+  user = e .user;
+  parent = e .parent;
+  zeros = e .zeros;
+  permissions = e .permissions;
+  locked = e .locked;
+  lockable = e .lockable;
+  cow = e .cow;
+  tag = g;
+  nonce = e .nonce;
+}
+
+-- the 40 bytes for the entry e of a number
+abbrev pub tagMessage : Entry → ℕ → List ℕ
+tagMessage e number = entryBytes (retag e 0) ++ lowBytes 8 number
+
+unfoldable pub tagOf : ℕ → ℕ → Entry → ℕ → ℕ
+tagOf k0 k1 e number = siphash k0 k1 (tagMessage e number) % 2 ^ 16
