@@ -4,14 +4,14 @@ use mathlib.Core.Path.{_≡_, refl, sym, _∙_, ap, ap₂}
 use mathlib.Core.List.{List, [], _∷_, reverse-reverse}
 use Prim.Native.Nat.{ℕ, zero, suc, _^_, _<_}
 use native.Mathlib.Nat.{mod-eq-of-lt, zero-div, zero-mod}
-use lib.ListN.{length, getD, take, drop, replicate}
+use lib.ListN.{length, getD, take, drop, replicate, length-replicate}
 use lib.Seq.{drop-drop}
 use borrow.Rule.Slice.PartMut.{putMid}
 use Rattle.layout.specs.Bytes.{bytes, lowBytes, lowNumber, number}
 use Rattle.layout.specs.Entry.{wordWidths, wordList, wordsNumber}
 use Rattle.layout.specs.Fields.{bits, pack, Fit}
 use Rattle.layout.specs.declared.entry.Words.{Words}
-use Rattle.layout.proofs.FieldLaws.{unpack-pack, pack-unpack, unpack-cut, pack-groups, cut}
+use Rattle.layout.proofs.FieldLaws.{unpack-pack, pack-unpack, length-unpack, unpack-cut, pack-groups, cut}
 
 -- the values of f below n
 abbrev pub tabulate : ℕ → (ℕ → ℕ) → List ℕ
@@ -39,6 +39,10 @@ bytes-number k s h = unpack-pack (replicate k 8) s h
 pub low-round : (k n : ℕ) → n < 2 ^ bits (replicate k 8) → lowNumber k (lowBytes k n) ≡ n
 unfolding lowBytes lowNumber
 low-round k n h = rw reverse-reverse (number-bytes k n h)
+
+pub length-bytes : (k n : ℕ) → length (bytes k n) ≡ k
+unfolding bytes
+length-bytes k n = length-unpack (replicate k 8) n ∙ length-replicate k 8
 
 -- the bytes of zero are zeros
 pub bytes-zero : (k : ℕ) → bytes k 0 ≡ replicate k 0

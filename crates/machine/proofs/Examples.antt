@@ -1,0 +1,20 @@
+-- 01's examples agree with the definitions, as one table: four packed tokens, the root entry, and cases 3, 4, 6 and 8 of the session.
+-- Assumes nothing.
+use mathlib.Core.Path.{refl}
+use Rattle.layout.specs.Bytes.{bytes, lowBytes, lowNumber, number}
+use Rattle.layout.specs.Entry.{directNumber, directOf, entryNumber, entryOf, indirectNumber, indirectOf}
+use Rattle.layout.specs.Examples.{Agree}
+use Rattle.layout.specs.Form.{illFormed}
+use Rattle.layout.specs.Permissions.{within}
+use Rattle.layout.specs.SipHash.{absorb, add64, compress, finish, padded, rotl, siphash, sipRound, word}
+use Rattle.layout.specs.Tag.{tagOf}
+use Rattle.machine.specs.Issuing.{passOver, seek}
+use Rattle.machine.specs.Line.{walk}
+use Rattle.machine.specs.Operations.{climb}
+use Rattle.machine.specs.Parts.{at, cleared, put, size}
+use Rattle.machine.specs.Session.{examples}
+use Rattle.machine.specs.Steps.{decide}
+
+pub examples-agree : Agree examples
+unfolding bytes number lowBytes lowNumber directNumber directOf entryNumber entryOf indirectNumber indirectOf illFormed within absorb add64 compress finish padded rotl siphash sipRound word tagOf passOver seek walk climb at cleared put size decide
+examples-agree = refl

@@ -1,0 +1,9 @@
+pub mod Demand3
+pub mod Issuing
+pub mod Line
+pub mod Operations
+pub mod Parts
+pub mod Requests
+pub mod Session
+pub mod Steps
+pub mod Stops

@@ -1,0 +1,48 @@
+-- The requests (01, "Operations", with "The parts of the machine" for reset). A token is a 64-bit word in any encoding.
+-- Assumes nothing.
+use mathlib.Core.List.{List}
+use Prim.Native.Nat.{ℕ}
+use Rattle.layout.specs.Permissions.{R, W, X}
+
+pub data Way : Type 0 where
+  reading : Way
+  writing : Way
+  fetching : Way
+
+-- the permission that each way of access needs
+abbrev pub rightOf : Way → ℕ
+rightOf reading = R
+rightOf writing = W
+rightOf fetching = X
+
+pub data Request : Type 0 where
+  reset : (key0 key1 firstNonce : ℕ) → Request
+  access : Way → (token task : ℕ) → Request
+  create : (token task length user permissions encoding : ℕ) → Request
+  merge : (first second task encoding : ℕ) → Request
+  derive : (token offset length permissions encoding : ℕ) → Request
+  executeOnly : (token encoding : ℕ) → Request
+  clone : (token : ℕ) → Request
+  release : (token : ℕ) → Request
+  lock : (token task : ℕ) → Request
+  unlock : (token task : ℕ) → Request
+  revoke : (token encoding : ℕ) → Request
+
+-- a request and the buffer that it brings; only an access looks at its buffer
+pub record Call : Type 0 where
+  pub request : Request
+  pub buffer : List ℕ
+
+-- the task that a request carries; 0 means none
+abbrev pub taskOf : Request → ℕ
+taskOf (reset k0 k1 ν) = 0
+taskOf (access w k u) = u
+taskOf (create k u l m p c) = u
+taskOf (merge j k u c) = u
+taskOf (derive k o l p c) = 0
+taskOf (executeOnly k c) = 0
+taskOf (clone k) = 0
+taskOf (release k) = 0
+taskOf (lock k u) = u
+taskOf (unlock k u) = u
+taskOf (revoke k c) = 0

@@ -1,0 +1,62 @@
+-- The first cases of 01's session ("Sessions to hold against"): 65,536 bytes, 4 entries, key 0, first nonce 1, task 0 unless named. Its cases look at no byte of
+-- memory, so that they are had from its length.
+-- Assumes nothing.
+use mathlib.Core.List.{List, [], _∷_, _++_}
+use Prim.Native.Nat.{ℕ}
+use lib.ListN.{getD, replicate}
+use Rattle.layout.specs.Examples.{packedExamples, Row}
+use Rattle.layout.specs.Permissions.{R}
+use Rattle.layout.specs.Token.{token}
+use Rattle.machine.specs.Operations.{Decision}
+use Rattle.machine.specs.Parts.{State}
+use Rattle.machine.specs.Requests.{access, Call, create, derive, lock, reading, Request, reset}
+use Rattle.machine.specs.Steps.{decide}
+
+abbrev pub bytes65536 : ℕ
+bytes65536 = 65536
+
+-- the decisions on a list of calls, one after the other
+abbrev pub decisions : State → List ℕ → List Call → List Decision
+decisions s t [] = []
+decisions s t (q ∷ qs) =
+    let d = decide bytes65536 s t (q .request) (q .buffer) in
+    d ∷ decisions (d .state) (d .table) qs
+
+abbrev pub refusals : List Decision → List ℕ
+refusals [] = []
+refusals (d ∷ ds) = d .reply .refusal ∷ refusals ds
+
+-- the token of number 0 and tag 0 with an offset, in encoding 0
+abbrev zeroAt : ℕ → ℕ
+zeroAt o = token 0 (record { tag = 0; number = 0; offset = o })
+
+abbrev read : (length offset task : ℕ) → Call
+read l o u = record { request = access reading (zeroAt o) u; buffer = replicate l 0 }
+
+abbrev plain : Request → Call
+plain q = record { request = q; buffer = [] }
+
+-- reset, then cases 1 to 8
+abbrev pub firstCases : List Call
+firstCases =
+    plain (reset 0 0 1)
+    ∷ read 12 4096 0
+    ∷ read 1 65535 0
+    ∷ read 1 65536 0
+    ∷ read 12 65525 0
+    ∷ plain (derive (zeroAt 0) 0 65535 R 0)
+    ∷ plain (derive (zeroAt 0) 0 65536 R 0)
+    ∷ plain (create (zeroAt 0) 0 4096 0 7 0)
+    ∷ plain (lock (zeroAt 0) 0)
+    ∷ []
+
+-- what stands before the reset does not matter
+abbrev any : State
+any = record { key0 = 0; key1 = 0; last = 0; next = 0 }
+
+-- the rows of 01's checklist: "The four packed tokens, the root entry and cases 3, 4, 6, 8 are proved as one table by one proposition."
+abbrev caseRow : ℕ → ℕ → Row
+caseRow case printed = record { given = getD (refusals (decisions any (replicate 128 0) firstCases)) case 99 ∷ []; printed = printed ∷ [] }
+
+abbrev pub examples : List Row
+examples = packedExamples ++ (caseRow 3 8 ∷ caseRow 4 8 ∷ caseRow 6 8 ∷ caseRow 8 1 ∷ [])
