@@ -12,7 +12,7 @@ use lib.Dec.{eqb, lit<, ltb}
 use lib.ListN.{getD, drop}
 use borrow.Author.Tests.{ltb-true}
 use Rattle.layout.specs.Fields.{bits, pack, unpack, Fit}
-use Rattle.layout.specs.Entry.{wordWidths, wordList, wordsNumber, bit, endWidths, endFields, endFrom, directWidths, directFields, directNumber, directFrom, directOf, indirectWidths, indirectFields, indirectNumber, indirectFrom, indirectOf, typeOf, packAs, unpackAs, entryNumber, entryOf, packable, Fits, Storable, isFree, isDirect, isIndirect}
+use Rattle.layout.specs.Entry.{direct, free, indirect, wordWidths, wordList, wordsNumber, bit, endWidths, endFields, endFrom, directWidths, directFields, directNumber, directFrom, directOf, indirectWidths, indirectFields, indirectNumber, indirectFrom, indirectOf, typeOf, packAs, unpackAs, entryNumber, entryOf, packable, Fits, Storable, isFree, isDirect, isIndirect}
 use Rattle.layout.specs.declared.entry.Words.{Words}
 use Rattle.layout.specs.declared.entry.Entry.{Entry}
 use Rattle.layout.proofs.FieldLaws.{pack-lt, unpack-pack, pack-unpack, unpack-fit, regroup-pack, regroup-unpack, cut, groups}
@@ -234,3 +234,23 @@ packable-fits e h =
     let holder = both _ _ (zeros .0) in
     let permissions = both (ltb (e .kind) 3) _ (holder .0) in
     record { permissions = ltb-true _ _ (permissions .1); holder = ltb-true _ _ (holder .1); zeros = ltb-true _ _ (zeros .1) }
+
+-- entries as they are issued fit, and so does whatever is read
+pub direct-fits : (b l u p : ℕ) (k : Bool) (g ν : ℕ) → p < 8 → Fits (direct b l u p k g ν)
+direct-fits b l u p k g ν h = record { permissions = h; holder = omega arith; zeros = omega arith }
+
+pub indirect-fits : (b l t p g ν : ℕ) → p < 8 → Fits (indirect b l t p g ν)
+indirect-fits b l t p g ν h = record { permissions = h; holder = omega arith; zeros = omega arith }
+
+pub free-fits : Fits free
+free-fits = record { permissions = omega arith; holder = omega arith; zeros = omega arith }
+
+pub read-fits : (n : ℕ) → Fits (entryOf n)
+unfolding entryOf directOf indirectOf
+read-fits n = go (typeOf n)
+  where
+    go : (k : ℕ) → Fits (unpackAs k n)
+    go zero = record { permissions = unpack-fit endWidths n .0; holder = omega arith; zeros = omega arith }
+    go (suc zero) = record { permissions = unpack-fit endWidths n .0; holder = unpack-fit directWidths n .1 .1 .1 .1 .0; zeros = omega arith }
+    go (suc (suc zero)) = record { permissions = unpack-fit endWidths n .0; holder = omega arith; zeros = unpack-fit indirectWidths n .1 .1 .1 .1 .1 .0 }
+    go (suc (suc (suc k))) = record { permissions = unpack-fit endWidths n .0; holder = omega arith; zeros = omega arith }

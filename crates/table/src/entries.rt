@@ -1,0 +1,30 @@
+// Entries by number: entry n is the 32 bytes from 32 n on, and nothing else of the table is lent.
+use layout::entry::Entry;
+use layout::entry::load;
+use layout::entry::store;
+ghost use mathlib.Core.Path.{_≡_};
+ghost use Prim.Native.Nat.{_+_, _*_, _≤_};
+ghost use lib.ListN.{length};
+ghost use Rattle.layout.specs.Entry.{Fits};
+ghost use Rattle.machine.specs.Parts.{at, put};
+
+// The entry of number n.
+pub fn entry_at(table: &[u8], n: usize) -> Entry
+    requires { ⌜ 32 * n + 32 ≤ length (now table) ⌝ }
+    ensures { λ r. ⌜ r ≡ at (now (table .entry)) n ⌝ }
+{
+    let start = 32 * n;
+    let end = start + 32;
+    load(&table[start..end])
+}
+
+// The entry e is stored under number n.
+pub fn put_entry(table: &mut [u8], n: usize, e: Entry)
+    requires { ⌜ 32 * n + 32 ≤ length (now table) ⌝ }
+    requires { ⌜ Fits e ⌝ }
+    ensures { λ _. ⌜ now (table .exit) ≡ put (now (table .entry)) n e ⌝ }
+{
+    let start = 32 * n;
+    let end = start + 32;
+    store(&mut table[start..end], e);
+}

@@ -1,0 +1,38 @@
+// Issues: an entry gets its tag under its number.
+use layout::entry::Entry;
+use layout::entry::direct;
+use layout::tag::tag;
+ghost use mathlib.Core.Path.{_≡_};
+ghost use mathlib.Core.Bool.{true};
+ghost use Prim.Native.Nat.{ℕ, _-_, _≤_};
+ghost use Rattle.layout.specs.Entry.{direct, Fits};
+ghost use Rattle.machine.specs.Issuing.{issue, passOver};
+ghost use Rattle.machine.specs.Parts.{spent};
+ghost use Rattle.table.specs.Keys.{keyed};
+
+// The entry e, with its nonce, as it is issued under number n.
+pub fn issued(k0: u64, k1: u64, n: usize, e: Entry) -> Entry
+    requires { ⌜ Fits e ⌝ }
+    ensures { λ r. ⌜ r ≡ issue (keyed k0 k1) n e ⌝ }
+{
+    let mut i = e;
+    i.tag = tag(k0, k1, e, n as u64);
+    i
+}
+
+// The first nonce from the next one on with which a segment, all of whose rights are fresh, is
+// issued under number n with another tag than the old; 2^32 if there is none.
+pub fn pass_over(k0: u64, k1: u64, n: usize, base: u32, length: u32, old: u16, next: u64) -> u64
+    requires { ⌜ next ≤ spent ⌝ }
+    ensures { λ r. ⌜ r ≡ passOver (spent - next) (keyed k0 k1) n (λ (ν : ℕ). direct base length 0 7 true 0 ν) old next ⌝ }
+{
+    let mut nonce = next;
+    while nonce < 4294967296 {
+        let e = direct(base, length, 0, 7, true, 0, nonce as u32);
+        if tag(k0, k1, e, n as u64) != old {
+            return nonce;
+        }
+        nonce += 1;
+    }
+    nonce
+}

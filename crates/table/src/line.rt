@@ -1,0 +1,68 @@
+// The line of an entry: from link to link up to its owner.
+use crate::entries::entry_at;
+use layout::entry::Entry;
+use layout::form::ill_formed;
+use layout::token::Encoding1;
+ghost use mathlib.Core.Path.{_≡_};
+ghost use Prim.Native.Nat.{_+_, _*_, _≤_};
+ghost use lib.ListN.{length};
+ghost use Rattle.machine.specs.Line.{lineOf, linked, links, parentNumber};
+ghost use Rattle.table.specs.Lines.{lineAs};
+
+// What a walk up a line ends at: the owner, the entry that holds a missing link, or an ill-formed
+// entry.
+pub enum Line {
+    Owner(usize),
+    Dead(usize),
+    Ill(usize),
+}
+
+// The number that the parent token names.
+pub fn parent_number(e: Entry) -> u64
+    ensures { λ r. ⌜ r ≡ parentNumber e ⌝ }
+{
+    let p = Encoding1::unpacked(e.parent);
+    p.number
+}
+
+// The entry p is the parent that e names, and older.
+fn links(p: Entry, e: Entry) -> bool
+    ensures { λ r. ⌜ r ≡ links p e ⌝ }
+{
+    let named = Encoding1::unpacked(e.parent);
+    (p.kind != 0) & ((p.tag as u64) == named.tag) & (p.nonce < e.nonce)
+}
+
+// The link of the entry e to its parent holds.
+pub fn linked(table: &[u8], e: Entry) -> bool
+    ensures { λ r. ⌜ r ≡ linked (now (table .entry)) e ⌝ }
+{
+    let n = parent_number(e);
+    if n < (table.len() / 32) as u64 {
+        links(entry_at(table, n as usize), e)
+    } else {
+        false
+    }
+}
+
+// The end of the line of entry n, in a memory of so many bytes.
+pub fn walk(table: &[u8], memory: u64, n: usize) -> Line
+    requires { ⌜ 32 * n + 32 ≤ length (now table) ⌝ }
+    ensures { λ r. ⌜ lineAs r ≡ lineOf memory (now (table .entry)) n ⌝ }
+{
+    let mut k = n;
+    loop {
+        let e = entry_at(table, k);
+        if ill_formed(memory, e) {
+            return Line::Ill(k);
+        }
+        if e.kind == 1 {
+            return Line::Owner(k);
+        }
+        if linked(table, e) {
+            k = parent_number(e) as usize;
+        } else {
+            return Line::Dead(k);
+        }
+    }
+}
