@@ -1,3 +1,5 @@
+pub mod Choices
 pub mod Examples
+pub mod Fuel
 pub mod SliceLaws
 pub mod TableLaws

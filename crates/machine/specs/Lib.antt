@@ -4,6 +4,7 @@ pub mod Line
 pub mod Operations
 pub mod Parts
 pub mod Requests
+pub mod Searches
 pub mod Session
 pub mod Steps
 pub mod Stops
