@@ -3,6 +3,7 @@ pub mod Issuing
 pub mod Line
 pub mod Operations
 pub mod Parts
+pub mod Refusals
 pub mod Requests
 pub mod Searches
 pub mod Session
