@@ -2,7 +2,6 @@
 -- Assumes nothing.
 use mathlib.Core.Path.{_≡_, refl}
 use mathlib.Core.Logic.{_≢_}
-use mathlib.Core.Bool.{Bool, cond}
 use mathlib.Core.List.{List}
 use Prim.Native.Nat.{ℕ}
 use lib.Dec.{eqb}
@@ -11,7 +10,7 @@ use Rattle.machine.specs.Operations.{Decision, grant, numberOf}
 use Rattle.machine.specs.Parts.{at, State}
 use Rattle.machine.specs.Refusals.{Told, Untouched}
 use Rattle.machine.specs.Requests.{access, Call, clone, create, derive, executeOnly, lock, merge, release, Request, reset, revoke, unlock}
-use Rattle.machine.specs.Steps.{answer, decide, decision, Machine, refused, step}
+use Rattle.machine.specs.Steps.{answer, decision, Machine, refused, step}
 use Rattle.machine.proofs.Choices.{by-cond}
 use Rattle.machine.proofs.Decided.{decided}
 

@@ -1,5 +1,6 @@
 pub mod Demand3
 pub mod Issuing
+pub mod Lent
 pub mod Line
 pub mod Operations
 pub mod Parts
