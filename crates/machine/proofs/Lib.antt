@@ -7,3 +7,4 @@ pub mod Lent
 pub mod Refused
 pub mod SliceLaws
 pub mod TableLaws
+pub mod Uses

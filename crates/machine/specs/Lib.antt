@@ -10,3 +10,4 @@ pub mod Searches
 pub mod Session
 pub mod Steps
 pub mod Stops
+pub mod Uses
