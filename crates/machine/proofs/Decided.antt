@@ -20,7 +20,7 @@ use Rattle.machine.proofs.Choices.{by-cond}
 
 -- ---- what each check tells if it fails
 
-pub record Proper (c : Check) : Type 0 where
+record Proper (c : Check) : Type 0 where
   pub tells : c .holds ≡ false → Told (c .refusal) (c .place)
 
 -- the numbers that have no place
@@ -42,21 +42,17 @@ whose-told r n k h i =
     (λ e. record { least = omega arith; most = omega arith; line = λ a b. (omega arith, omega arith); plain = λ a b. absurd (omega arith) })
     (λ e. record { least = omega arith; most = omega arith; line = λ a b. (omega arith, omega arith); plain = λ a b. absurd (omega arith) })
 
+-- a check of a line that no owner fails
+line-told : (r n : ℕ) → 3 ≤ r → r ≤ 4 → (holds : Line → Bool) → ((k : ℕ) → holds (owner k) ≡ true) → (l : Line) → holds l ≡ false → Told r (badPlace n l)
+line-told r n h i holds fine (owner k) e = let z : _≡_ {A = ℕ} 0 1 = cc (fine k) in absurd (omega arith)
+line-told r n h i holds fine (dead k) e = whose-told r n k h i
+line-told r n h i holds fine (ill k) e = whose-told r n k h i
+
 proper-ill : (n m : ℕ) (t : List ℕ) → Proper (needLine 3 n m t (not (isIll (lineOf m t n))))
-proper-ill n m t = record { tells = go (lineOf m t n) }
-  where
-    go : (l : Line) → not (isIll l) ≡ false → Told 3 (badPlace n l)
-    go (owner k) e = let z : _≡_ {A = ℕ} 0 1 = cc in absurd (omega arith)
-    go (dead k) e = whose-told 3 n k (omega arith) (omega arith)
-    go (ill k) e = whose-told 3 n k (omega arith) (omega arith)
+proper-ill n m t = record { tells = line-told 3 n (omega arith) (omega arith) (λ l. not (isIll l)) (λ k. refl) (lineOf m t n) }
 
 proper-dead : (n m : ℕ) (t : List ℕ) → Proper (needLine 4 n m t (not (isDead (lineOf m t n))))
-proper-dead n m t = record { tells = go (lineOf m t n) }
-  where
-    go : (l : Line) → not (isDead l) ≡ false → Told 4 (badPlace n l)
-    go (owner k) e = let z : _≡_ {A = ℕ} 0 1 = cc in absurd (omega arith)
-    go (dead k) e = whose-told 4 n k (omega arith) (omega arith)
-    go (ill k) e = whose-told 4 n k (omega arith) (omega arith)
+proper-dead n m t = record { tells = line-told 4 n (omega arith) (omega arith) (λ l. not (isDead l)) (λ k. refl) (lineOf m t n) }
 
 data AllProper : List Check → Type 0 where
   none : AllProper []

@@ -93,10 +93,10 @@ line-formed m t n =
     (λ e h. e)
 
 -- an effect reads no more than the buffer holds, and inside memory; it stores bytes, if the buffer has bytes
-abbrev Proper : (m : ℕ) (buffer : List ℕ) → Effect → Type 0
-Proper m b nothing = Unit {0}
-Proper m b (load a n) = (a + n ≤ m) × (n ≡ length b)
-Proper m b (store a bs) = AllBytes b → AllBytes bs
+abbrev EffectFits : (m : ℕ) (buffer : List ℕ) → Effect → Type 0
+EffectFits m b nothing = Unit {0}
+EffectFits m b (load a n) = (a + n ≤ m) × (n ≡ length b)
+EffectFits m b (store a bs) = AllBytes b → AllBytes bs
 
 access-inside : (m : ℕ) (s : State) (t : List ℕ) (w : Way) (k u : ℕ) (b : List ℕ) → Passed (checks m s t (access w k u) b) → namedEntry t k .base + named k .offset + length b ≤ m
 access-inside m s t w k u b h =
@@ -106,27 +106,27 @@ access-inside m s t w k u b h =
     let bound : named k .offset + length b ≤ e .length = leb-true (named k .offset + length b) (e .length) (search) in
     omega (arith, formed-inside m e full formed)
 
-effect-proper : (m : ℕ) (s : State) (t : List ℕ) (q : Request) (b : List ℕ) → Passed (checks m s t q b) → Proper m b (grant m s t q b .effect)
-effect-proper m s t (reset k0 k1 ν) b h = tt
-effect-proper m s t (access reading k u) b h = (access-inside m s t reading k u b h, refl)
-effect-proper m s t (access writing k u) b h = λ i. i
-effect-proper m s t (access fetching k u) b h = (access-inside m s t fetching k u b h, refl)
-effect-proper m s t (create k u l x p c) b h =
-    by-cond (λ (d : Decision). Proper m b (d .effect)) (eqb l (at t (numberOf k) .length)) (λ e. tt) (λ e. tt)
-effect-proper m s t (merge j k u c) b h = tt
-effect-proper m s t (derive k o l p c) b h = tt
-effect-proper m s t (executeOnly k c) b h = tt
-effect-proper m s t (clone k) b h = tt
-effect-proper m s t (release k) b h = tt
-effect-proper m s t (lock k u) b h = tt
-effect-proper m s t (unlock k u) b h = tt
-effect-proper m s t (revoke k c) b h = λ i. bytes-zeros (at t (numberOf k) .length)
+effect-fits : (m : ℕ) (s : State) (t : List ℕ) (q : Request) (b : List ℕ) → Passed (checks m s t q b) → EffectFits m b (grant m s t q b .effect)
+effect-fits m s t (reset k0 k1 ν) b h = tt
+effect-fits m s t (access reading k u) b h = (access-inside m s t reading k u b h, refl)
+effect-fits m s t (access writing k u) b h = λ i. i
+effect-fits m s t (access fetching k u) b h = (access-inside m s t fetching k u b h, refl)
+effect-fits m s t (create k u l x p c) b h =
+    by-cond (λ (d : Decision). EffectFits m b (d .effect)) (eqb l (at t (numberOf k) .length)) (λ e. tt) (λ e. tt)
+effect-fits m s t (merge j k u c) b h = tt
+effect-fits m s t (derive k o l p c) b h = tt
+effect-fits m s t (executeOnly k c) b h = tt
+effect-fits m s t (clone k) b h = tt
+effect-fits m s t (release k) b h = tt
+effect-fits m s t (lock k u) b h = tt
+effect-fits m s t (unlock k u) b h = tt
+effect-fits m s t (revoke k c) b h = λ i. bytes-zeros (at t (numberOf k) .length)
 
-decided-proper : (σ : Machine) (q : Call) → Proper (length (σ .memory)) (q .buffer) (decision σ q .effect)
-decided-proper σ q =
+decided-fits : (σ : Machine) (q : Call) → EffectFits (length (σ .memory)) (q .buffer) (decision σ q .effect)
+decided-fits σ q =
     let m : ℕ = length (σ .memory) in
-    decided (λ (d : Decision). Proper m (q .buffer) (d .effect)) m (σ .state) (σ .table) (q .request) (q .buffer)
-    (effect-proper m (σ .state) (σ .table) (q .request) (q .buffer))
+    decided (λ (d : Decision). EffectFits m (q .buffer) (d .effect)) m (σ .state) (σ .table) (q .request) (q .buffer)
+    (effect-fits m (σ .state) (σ .table) (q .request) (q .buffer))
     (λ r p told. tt)
 
 memory-long : (f : Effect) (memory : List ℕ) → length (memoryAfter f memory) ≡ length memory
@@ -134,12 +134,12 @@ memory-long nothing memory = refl
 memory-long (load a n) memory = refl
 memory-long (store a bs) memory = length-sets memory a bs
 
-buffer-long : (f : Effect) (memory b : List ℕ) → Proper (length memory) b f → length (bufferAfter f memory b) ≡ length b
+buffer-long : (f : Effect) (memory b : List ℕ) → EffectFits (length memory) b f → length (bufferAfter f memory b) ≡ length b
 buffer-long nothing memory b h = refl
 buffer-long (load a n) memory b h = simp (length-take, length-drop) (omega arith)
 buffer-long (store a bs) memory b h = refl
 
-memory-bytes : (f : Effect) (memory b : List ℕ) → Proper (length memory) b f → AllBytes memory → AllBytes b → AllBytes (memoryAfter f memory)
+memory-bytes : (f : Effect) (memory b : List ℕ) → EffectFits (length memory) b f → AllBytes memory → AllBytes b → AllBytes (memoryAfter f memory)
 memory-bytes nothing memory b h i j = i
 memory-bytes (load a n) memory b h i j = i
 memory-bytes (store a bs) memory b h i j = bytes-sets memory a bs (h j) i
@@ -157,7 +157,7 @@ as-long σ q =
     record {
       table = table-after (λ (t : List ℕ). length t ≡ length (σ .table)) (λ t n e h. length-put t n e ∙ h) (λ t h. length-cleared t ∙ h) σ q refl;
       memory = memory-long (decision σ q .effect) (σ .memory);
-      buffer = buffer-long (decision σ q .effect) (σ .memory) (q .buffer) (decided-proper σ q);
+      buffer = buffer-long (decision σ q .effect) (σ .memory) (q .buffer) (decided-fits σ q);
     }
 
 pub bytes-stay : (σ : Machine) (q : Call) → LentBytes σ (q .buffer) → LentBytes (step σ q) (answer σ q .buffer)
@@ -165,6 +165,6 @@ unfolding step answer
 bytes-stay σ q h =
     record {
       table = table-after AllBytes bytes-put (λ t i. bytes-cleared t) σ q (h .table);
-      memory = memory-bytes (decision σ q .effect) (σ .memory) (q .buffer) (decided-proper σ q) (h .memory) (h .buffer);
+      memory = memory-bytes (decision σ q .effect) (σ .memory) (q .buffer) (decided-fits σ q) (h .memory) (h .buffer);
       buffer = buffer-bytes (decision σ q .effect) (σ .memory) (q .buffer) (h .memory) (h .buffer);
     }
