@@ -123,18 +123,21 @@ onward-add t zero j k = let e : 0 + j ≡ j = omega arith in rw e
 onward-add t (suc i) j k = let e : suc i + j ≡ suc (i + j) = omega arith in rw e (onward-add t i j (after t k))
 
 -- every number but 0 is met
-onward-all : (t : List ℕ) (k n : ℕ) → k < size t → 0 < n → n < size t → (i : ℕ) × (i < size t - 1) × (onward t (suc i) k ≡ n)
-onward-all t k n hk h hn = go (decLt k n)
+onward-all : (t : List ℕ) (k n : ℕ) → 0 < n → n < size t → (i : ℕ) × (i < size t - 1) × (onward t (suc i) k ≡ n)
+onward-all t k n h hn = go (decLt k n)
   where
-    -- so many places on is the table's end
+    -- so many places on is the table's end; none, if k is beyond it
     left : ℕ
     left = size t - 1 - k
 
+    end : Dec (k < size t) → size t ≤ onward t left k + 1
+    end (yes i) = omega (arith, onward-up t left k (omega arith))
+    end (no i) = let z : size t - 1 - k ≡ 0 = omega arith in rw z (omega arith)
+
     turn : onward t (suc left) k ≡ 1
     turn =
-        let e : size t ≤ onward t left k + 1 = omega (arith, onward-up t left k (omega arith)) in
         let l : suc left ≡ left + 1 = omega arith in
-        rw l (onward-add t left 1 k ∙ rw (le-ltb (onward t left k + 1) (size t) e))
+        rw l (onward-add t left 1 k ∙ rw (le-ltb (onward t left k + 1) (size t) (end (decLt k (size t)))))
 
     go : Dec (k < n) → (i : ℕ) × (i < size t - 1) × (onward t (suc i) k ≡ n)
     go (yes d) =
@@ -147,9 +150,9 @@ onward-all t k n hk h hn = go (decLt k n)
         (left + (n - 1), omega arith, rw l (onward-add t (suc left) (n - 1) k ∙ rw turn (omega arith)))
 
 -- "no free number" is said only if none is free
-pub number-none : (s : State) (t : List ℕ) → s .last < size t → newNumber s t ≡ 0 → NoneFree t
-number-none s t h z n p q =
-    let r : (i : ℕ) × (i < size t - 1) × (onward t (suc i) (s .last) ≡ n) = onward-all t (s .last) n h p q in
+pub number-none : (s : State) (t : List ℕ) → newNumber s t ≡ 0 → NoneFree t
+number-none s t z n p q =
+    let r : (i : ℕ) × (i < size t - 1) × (onward t (suc i) (s .last) ≡ n) = onward-all t (s .last) n p q in
     rw (← (r .2)) (seek-none (size t - 1) t (s .last) z (r .0) (r .1))
 
 -- and a number that is given is the first free one

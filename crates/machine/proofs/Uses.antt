@@ -21,7 +21,7 @@ use Rattle.machine.specs.Operations.{Name}
 use Rattle.machine.specs.Parts.{at, cleared, put, size}
 use Rattle.machine.specs.Requests.{Call, reading}
 use Rattle.machine.specs.Steps.{Answer, answer, decide, Machine, run, step}
-use Rattle.machine.specs.Uses.{before, changed, derived, First, first, listOf, lockedBy7, Premises, read, reset1, revoked}
+use Rattle.machine.specs.Uses.{before, changed, derives, First, first, listOf, locks7, Premises, read, reset1, revokes}
 
 -- ---- a token derived before the lock is closed by the revoke
 
@@ -39,9 +39,9 @@ abbrev child : Name
 child = record { number = 1; tag = 63154 }
 
 -- the premises are met, with a read by 8, which is refused, before the revoke; and the revoke issues the root alone
-child-premises :
-    Premises before (first 1 (derived ∷ lockedBy7 ∷ [])) (read 0 8 ∷ []) (revoked 0) (reset1 1 ∷ []) derived (lockedBy7 ∷ read 0 8 ∷ []) child
-    × (List·Memᴰ child (issuedIn (step (run before (reset1 1 ∷ [])) derived) (lockedBy7 ∷ read 0 8 ∷ revoked 0 ∷ [])) → ⊥)
+pub child-premises :
+    Premises before (first 1 (derives ∷ locks7 ∷ [])) (read 0 8 ∷ []) (revokes 0) (reset1 1 ∷ []) derives (locks7 ∷ read 0 8 ∷ []) child
+    × (List·Memᴰ child (issuedIn (step (run before (reset1 1 ∷ [])) derives) (locks7 ∷ read 0 8 ∷ revokes 0 ∷ [])) → ⊥)
 unfolding before bytes number lowBytes lowNumber directNumber directOf entryNumber entryOf indirectNumber indirectOf illFormed within absorb add64 compress finish padded rotl siphash sipRound word tagOf passOver seek walk at cleared put size decide step answer
 child-premises = (
   record {
@@ -62,9 +62,9 @@ child-premises = (
     once (inl e) = omega (arith, ap (λ (x : Name). x .number) e)
     once (inr m) = List·Memᴰ·not-nil m
 
-pub child-closed : Demand3 → Closed (run before (reset1 1 ∷ derived ∷ lockedBy7 ∷ read 0 8 ∷ revoked 0 ∷ [])) child
+pub child-closed : Demand3 → Closed (run before (reset1 1 ∷ derives ∷ locks7 ∷ read 0 8 ∷ revokes 0 ∷ [])) child
 child-closed d =
-    closed-by d before (first 1 (derived ∷ lockedBy7 ∷ [])) (read 0 8 ∷ []) (revoked 0) (reset1 1 ∷ []) derived (lockedBy7 ∷ read 0 8 ∷ []) child (child-premises .0) [] tt (child-premises .1)
+    closed-by d before (first 1 (derives ∷ locks7 ∷ [])) (read 0 8 ∷ []) (revokes 0) (reset1 1 ∷ []) derives (locks7 ∷ read 0 8 ∷ []) child (child-premises .0) [] tt (child-premises .1)
 
 -- ---- "none carrying t" is needed: a read by the holder tells two copies apart
 
@@ -85,13 +85,13 @@ firstByte (a ∷ rest) = getD (a .buffer) 0 0
 
 -- the other premises hold, and what demand 3 claims fails
 pub holder-reads :
-    let τ : Machine = run before (listOf (first 1 (lockedBy7 ∷ []))) in
+    let τ : Machine = run before (listOf (first 1 (locks7 ∷ []))) in
     let e : Entry = at (τ .table) 0 in
     Accepted before (reset1 1) × LockedFor τ 0 7 × Alike e τ (changed τ 3 5)
-    × (Secret before (listOf (first 1 (lockedBy7 ∷ []))) 0 e τ (changed τ 3 5) (read 3 7 ∷ []) → ⊥)
+    × (Secret before (listOf (first 1 (locks7 ∷ []))) 0 e τ (changed τ 3 5) (read 3 7 ∷ []) → ⊥)
 unfolding before firstByte bytes number lowBytes lowNumber directNumber directOf entryNumber entryOf indirectNumber indirectOf illFormed within absorb add64 compress finish padded rotl siphash sipRound word tagOf passOver seek walk at cleared put size decide step answer
 holder-reads =
-    let τ : Machine = run before (listOf (first 1 (lockedBy7 ∷ []))) in
+    let τ : Machine = run before (listOf (first 1 (locks7 ∷ []))) in
     (refl, record { direct = refl; locked = refl; held = refl }, one-byte (at (τ .table) 0) τ 3 5 (omega arith, omega arith), λ s. let z : _≡_ {A = ℕ} 9 5 = ap firstByte (s .same) in omega arith)
 
 -- ---- "unless the same number and tag were issued again" is needed: a token opens again
@@ -102,12 +102,12 @@ rootName = record { number = 0; tag = 0 }
 -- The first nonce is such that two revokes in a row bring the first tag back: the first gives tag 23730, and the second, which passes over that
 -- one alone, gives tag 0. Between them the token is refused; after them a read through it is granted, to whatever task.
 pub opens-again :
-    let r : Call = revoked 0 in
-    let z : Call = revoked 1669850299335966720 in
-    let τ : Machine = run before (listOf (first 87419 (lockedBy7 ∷ []))) in
-    Premises before (first 87419 (lockedBy7 ∷ [])) [] r [] (reset1 87419) (lockedBy7 ∷ []) rootName
+    let r : Call = revokes 0 in
+    let z : Call = revokes 1669850299335966720 in
+    let τ : Machine = run before (listOf (first 87419 (locks7 ∷ []))) in
+    Premises before (first 87419 (locks7 ∷ [])) [] r [] (reset1 87419) (locks7 ∷ []) rootName
     × (answer (step τ r) (read 0 0) .reply .refusal ≡ 2)
-    × List·Memᴰ rootName (issuedIn (step before (reset1 87419)) (lockedBy7 ∷ r ∷ z ∷ []))
+    × List·Memᴰ rootName (issuedIn (step before (reset1 87419)) (locks7 ∷ r ∷ z ∷ []))
     × (Closed (run (step τ r) (z ∷ [])) rootName → ⊥)
 unfolding before bytes number lowBytes lowNumber directNumber directOf entryNumber entryOf indirectNumber indirectOf illFormed within absorb add64 compress finish padded rotl siphash sipRound word tagOf passOver seek walk at cleared put size decide step answer
 opens-again = (

@@ -49,15 +49,15 @@ abbrev plain : Request → Call
 plain q = record { request = q; buffer = [] }
 
 -- bytes 2 to 4 of the root for reading; the root locked for 7
-abbrev pub derived : Call
-derived = plain (derive 0 2 3 4 0)
+abbrev pub derives : Call
+derives = plain (derive 0 2 3 4 0)
 
-abbrev pub lockedBy7 : Call
-lockedBy7 = plain (lock 0 7)
+abbrev pub locks7 : Call
+locks7 = plain (lock 0 7)
 
 -- the token 0 is the root's as reset gives it: number 0, tag 0
-abbrev pub revoked : (token : ℕ) → Call
-revoked k = plain (revoke k 0)
+abbrev pub revokes : (token : ℕ) → Call
+revokes k = plain (revoke k 0)
 
 -- one byte at an offset of the root, through that token
 abbrev pub read : (offset task : ℕ) → Call
