@@ -1,3 +1,10 @@
+pub mod ByteLaws
+pub mod Choices
+pub mod Decided
 pub mod Examples
+pub mod Fuel
+pub mod Lent
+pub mod Refused
 pub mod SliceLaws
 pub mod TableLaws
+pub mod Uses

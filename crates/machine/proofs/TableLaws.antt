@@ -16,6 +16,8 @@ use Rattle.layout.specs.declared.entry.Entry.{Entry}
 use Rattle.layout.proofs.ByteLaws.{length-bytes}
 use Rattle.layout.proofs.FormLaws.{free-back, written-read}
 use Rattle.machine.specs.Parts.{at, cleared, put, size}
+use Rattle.machine.specs.Lent.{AllBytes}
+use Rattle.machine.proofs.ByteLaws.{bytes-sets, bytes-zeros, entry-bytes}
 use Rattle.machine.proofs.SliceLaws.{all-zeros, slice-agree, slice-same, sets-other}
 
 -- ---- reading and writing by number
@@ -101,3 +103,16 @@ at-cleared t n = go (decLt n (size (cleared t)))
     go : Dec (n < size (cleared t)) → at (cleared t) n ≡ free
     go (yes i) = at-in (cleared t) n i ∙ ap entryAt (zeros t n i) ∙ free-back .0
     go (no i) = at-out (cleared t) n (omega arith)
+
+-- ---- a table of bytes stays one
+
+pub bytes-put : (t : List ℕ) (n : ℕ) (e : Entry) → AllBytes t → AllBytes (put t n e)
+bytes-put t n e b = go (decLt n (size t))
+  where
+    go : Dec (n < size t) → AllBytes (put t n e)
+    go (yes h) = rw (put-sets t n e h) (bytes-sets t (32 * n) (entryBytes e) (entry-bytes e) b)
+    go (no h) = rw (put-out t n e (omega arith)) b
+
+pub bytes-cleared : (t : List ℕ) → AllBytes (cleared t)
+unfolding cleared
+bytes-cleared t = bytes-zeros (length t)

@@ -1,9 +1,13 @@
 pub mod Demand3
 pub mod Issuing
+pub mod Lent
 pub mod Line
 pub mod Operations
 pub mod Parts
+pub mod Refusals
 pub mod Requests
+pub mod Searches
 pub mod Session
 pub mod Steps
 pub mod Stops
+pub mod Uses

@@ -1,0 +1,170 @@
+-- Under every call, granted or not, table, memory and buffer keep their lengths and stay lists of bytes.
+-- Assumes nothing.
+use mathlib.Core.Path.{_≡_, refl, sym, _∙_}
+use mathlib.Core.Logic.{_≢_}
+use mathlib.Core.Bool.{Bool, true, false, not, _&&_, _||_}
+use mathlib.Core.List.{List, [], _∷_}
+use Prim.Native.Nat.{ℕ, zero, suc, _+_, _≤_}
+use native.Mathlib.Omega.{arith}
+use lib.Dec.{eqb, leb}
+use lib.ListN.{drop, length, length-drop, length-take}
+use lib.Seq.{length-sets}
+use borrow.Author.Tests.{eqb-false, leb-true, ltb-false, not-true}
+use Rattle.layout.specs.Entry.{free}
+use Rattle.layout.specs.Form.{endPastMemory, faultsOf, illFormed, lengthZero, orSome}
+use Rattle.layout.specs.Token.{named}
+use Rattle.layout.specs.declared.entry.Entry.{Entry}
+use Rattle.layout.proofs.FormLaws.{ill-as}
+use Rattle.machine.specs.Lent.{AllBytes, AsLong, LentBytes}
+use Rattle.machine.specs.Line.{isIll, isLocked, Line, linked, lineOf, parentNumber, walk}
+use Rattle.machine.specs.Operations.{climb, Decision, Effect, grant, load, namedEntry, nothing, numberOf, store}
+use Rattle.machine.specs.Parts.{at, cleared, put, State}
+use Rattle.machine.specs.Requests.{access, Call, clone, create, derive, executeOnly, fetching, lock, merge, reading, release, Request, reset, revoke, unlock, Way, writing}
+use Rattle.machine.specs.Steps.{answer, bufferAfter, decision, Machine, memoryAfter, step}
+use Rattle.machine.specs.Stops.{checks}
+use Rattle.machine.proofs.ByteLaws.{bytes-drop, bytes-sets, bytes-take, bytes-zeros}
+use Rattle.machine.proofs.Choices.{by-cond}
+use Rattle.machine.proofs.Decided.{decided, Passed}
+use Rattle.machine.proofs.TableLaws.{bytes-cleared, bytes-put, length-cleared, length-put}
+
+-- ---- the table
+
+-- Entries are all that is written: what holds of a table, and of it with an entry put, and of it cleared, holds after each request.
+module _ (P : List ℕ → Type 0) (puts : (t : List ℕ) (n : ℕ) (e : Entry) → P t → P (put t n e)) (clears : (t : List ℕ) → P t → P (cleared t)) where
+  climbed : (f : ℕ) (t : List ℕ) (n : ℕ) → P t → P (climb f t n)
+  unfolding climb
+  climbed zero t n h = h
+  climbed (suc f) t n h =
+      by-cond P (leb 2 (at t n .count)) (λ c. puts t n _ h)
+      (λ c. by-cond P (eqb (at t n .count) 0) (λ z. h)
+      (λ z. by-cond P (eqb (at t n .kind) 1) (λ d. puts t n _ h)
+      (λ d. by-cond P (linked t (at t n)) (λ l. climbed f (put t n free) (parentNumber (at t n)) (puts t n free h)) (λ l. puts t n free h))))
+
+  granted-table : (m : ℕ) (s : State) (t : List ℕ) (q : Request) (b : List ℕ) → P t → P (grant m s t q b .table)
+  granted-table m s t (reset k0 k1 ν) b h = puts _ _ _ (clears t h)
+  granted-table m s t (access w k u) b h = h
+  granted-table m s t (create k u l x p c) b h =
+      by-cond (λ (d : Decision). P (d .table)) (eqb l (at t (numberOf k) .length)) (λ e. puts _ _ _ (puts t _ _ h)) (λ e. puts _ _ _ (puts t _ _ h))
+  granted-table m s t (merge j k u c) b h = puts _ _ _ (puts t _ _ h)
+  granted-table m s t (derive k o l p c) b h = puts _ _ _ (puts t _ _ h)
+  granted-table m s t (executeOnly k c) b h = puts _ _ _ (puts t _ _ h)
+  granted-table m s t (clone k) b h = puts t _ _ h
+  granted-table m s t (release k) b h =
+      by-cond P (eqb (at t (numberOf k) .count) 1 && isLocked t (lineOf m t (numberOf k))) (λ e. h) (λ e. climbed (suc (at t (numberOf k) .nonce)) t (numberOf k) h)
+  granted-table m s t (lock k u) b h = puts t _ _ h
+  granted-table m s t (unlock k u) b h = puts t _ _ h
+  granted-table m s t (revoke k c) b h = puts t _ _ h
+
+  pub table-after : (σ : Machine) (q : Call) → P (σ .table) → P (step σ q .table)
+  unfolding step
+  table-after σ q h =
+      decided (λ (d : Decision). P (d .table)) (length (σ .memory)) (σ .state) (σ .table) (q .request) (q .buffer)
+      (λ p. granted-table (length (σ .memory)) (σ .state) (σ .table) (q .request) (q .buffer) h)
+      (λ r p told. h)
+
+-- ---- memory and buffer
+
+-- if no case holds, the first does not, and the second does not
+none-before : (bs : List Bool) (a : Bool) → orSome a bs ≡ false → a ≡ false
+none-before [] a h = h
+none-before (b ∷ bs) true h = none-before bs true h
+none-before (b ∷ bs) false h = refl
+
+second : (a b : Bool) (bs : List Bool) → orSome (a || b) bs ≡ false → b ≡ false
+second true b bs h = let z : _≡_ {A = Bool} true false = none-before bs true h in let z : _≡_ {A = ℕ} 0 1 = cc in absurd (omega arith)
+second false b bs h = none-before bs b h
+
+-- a well-formed entry lies in memory
+pub formed-inside : (m : ℕ) (e : Entry) → e .kind ≢ 0 → illFormed m e ≡ false → e .base + e .length ≤ m
+formed-inside m e f h = ltb-false m (e .base + e .length) (go (e .kind) f (sym (ill-as m e refl) ∙ h))
+  where
+    go : (k : ℕ) → k ≢ 0 → orSome false (faultsOf k m e) ≡ false → endPastMemory m e ≡ false
+    go zero f h = absurd (f refl)
+    go (suc zero) f h = second (lengthZero e) (endPastMemory m e) (drop 2 (faultsOf 1 m e)) h
+    go (suc (suc zero)) f h = second (lengthZero e) (endPastMemory m e) (drop 2 (faultsOf 2 m e)) h
+    go (suc (suc (suc k))) f h = let z : _≡_ {A = ℕ} 0 1 = cc in absurd (omega arith)
+
+-- the first entry of a line that is not ill-formed is well-formed
+pub line-formed : (m : ℕ) (t : List ℕ) (n : ℕ) → not (isIll (lineOf m t n)) ≡ true → illFormed m (at t n) ≡ false
+unfolding walk
+line-formed m t n =
+    by-cond (λ (l : Line). not (isIll l) ≡ true → illFormed m (at t n) ≡ false) (illFormed m (at t n))
+    (λ e h. let z : _≡_ {A = ℕ} 0 1 = cc in absurd (omega arith))
+    (λ e h. e)
+
+-- an effect reads no more than the buffer holds, and inside memory; it stores bytes, if the buffer has bytes
+abbrev EffectFits : (m : ℕ) (buffer : List ℕ) → Effect → Type 0
+EffectFits m b nothing = Unit {0}
+EffectFits m b (load a n) = (a + n ≤ m) × (n ≡ length b)
+EffectFits m b (store a bs) = AllBytes b → AllBytes bs
+
+access-inside : (m : ℕ) (s : State) (t : List ℕ) (w : Way) (k u : ℕ) (b : List ℕ) → Passed (checks m s t (access w k u) b) → namedEntry t k .base + named k .offset + length b ≤ m
+access-inside m s t w k u b h =
+    let e : Entry = namedEntry t k in
+    let full : e .kind ≢ 0 = eqb-false (e .kind) 0 (not-true (eqb (e .kind) 0) (search)) in
+    let formed : illFormed m e ≡ false = line-formed m t (numberOf k) (search) in
+    let bound : named k .offset + length b ≤ e .length = leb-true (named k .offset + length b) (e .length) (search) in
+    omega (arith, formed-inside m e full formed)
+
+effect-fits : (m : ℕ) (s : State) (t : List ℕ) (q : Request) (b : List ℕ) → Passed (checks m s t q b) → EffectFits m b (grant m s t q b .effect)
+effect-fits m s t (reset k0 k1 ν) b h = tt
+effect-fits m s t (access reading k u) b h = (access-inside m s t reading k u b h, refl)
+effect-fits m s t (access writing k u) b h = λ i. i
+effect-fits m s t (access fetching k u) b h = (access-inside m s t fetching k u b h, refl)
+effect-fits m s t (create k u l x p c) b h =
+    by-cond (λ (d : Decision). EffectFits m b (d .effect)) (eqb l (at t (numberOf k) .length)) (λ e. tt) (λ e. tt)
+effect-fits m s t (merge j k u c) b h = tt
+effect-fits m s t (derive k o l p c) b h = tt
+effect-fits m s t (executeOnly k c) b h = tt
+effect-fits m s t (clone k) b h = tt
+effect-fits m s t (release k) b h = tt
+effect-fits m s t (lock k u) b h = tt
+effect-fits m s t (unlock k u) b h = tt
+effect-fits m s t (revoke k c) b h = λ i. bytes-zeros (at t (numberOf k) .length)
+
+decided-fits : (σ : Machine) (q : Call) → EffectFits (length (σ .memory)) (q .buffer) (decision σ q .effect)
+decided-fits σ q =
+    let m : ℕ = length (σ .memory) in
+    decided (λ (d : Decision). EffectFits m (q .buffer) (d .effect)) m (σ .state) (σ .table) (q .request) (q .buffer)
+    (effect-fits m (σ .state) (σ .table) (q .request) (q .buffer))
+    (λ r p told. tt)
+
+memory-long : (f : Effect) (memory : List ℕ) → length (memoryAfter f memory) ≡ length memory
+memory-long nothing memory = refl
+memory-long (load a n) memory = refl
+memory-long (store a bs) memory = length-sets memory a bs
+
+buffer-long : (f : Effect) (memory b : List ℕ) → EffectFits (length memory) b f → length (bufferAfter f memory b) ≡ length b
+buffer-long nothing memory b h = refl
+buffer-long (load a n) memory b h = simp (length-take, length-drop) (omega arith)
+buffer-long (store a bs) memory b h = refl
+
+memory-bytes : (f : Effect) (memory b : List ℕ) → EffectFits (length memory) b f → AllBytes memory → AllBytes b → AllBytes (memoryAfter f memory)
+memory-bytes nothing memory b h i j = i
+memory-bytes (load a n) memory b h i j = i
+memory-bytes (store a bs) memory b h i j = bytes-sets memory a bs (h j) i
+
+buffer-bytes : (f : Effect) (memory b : List ℕ) → AllBytes memory → AllBytes b → AllBytes (bufferAfter f memory b)
+buffer-bytes nothing memory b i j = j
+buffer-bytes (load a n) memory b i j = bytes-take n (drop a memory) (bytes-drop a memory i)
+buffer-bytes (store a bs) memory b i j = j
+
+-- ---- every call
+
+pub as-long : (σ : Machine) (q : Call) → AsLong σ q
+unfolding step answer
+as-long σ q =
+    record {
+      table = table-after (λ (t : List ℕ). length t ≡ length (σ .table)) (λ t n e h. length-put t n e ∙ h) (λ t h. length-cleared t ∙ h) σ q refl;
+      memory = memory-long (decision σ q .effect) (σ .memory);
+      buffer = buffer-long (decision σ q .effect) (σ .memory) (q .buffer) (decided-fits σ q);
+    }
+
+pub bytes-stay : (σ : Machine) (q : Call) → LentBytes σ (q .buffer) → LentBytes (step σ q) (answer σ q .buffer)
+unfolding step answer
+bytes-stay σ q h =
+    record {
+      table = table-after AllBytes bytes-put (λ t i. bytes-cleared t) σ q (h .table);
+      memory = memory-bytes (decision σ q .effect) (σ .memory) (q .buffer) (decided-fits σ q) (h .memory) (h .buffer);
+      buffer = buffer-bytes (decision σ q .effect) (σ .memory) (q .buffer) (h .memory) (h .buffer);
+    }

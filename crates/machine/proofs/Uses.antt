@@ -1,0 +1,128 @@
+-- Demand 3 used, with the real tags: its premises can be met, and two of them are shown to be needed.
+-- Assumes nothing.
+use mathlib.Core.Path.{_≡_, refl, sym, ap}
+use mathlib.Core.Logic.{_⊎_, inl, inr}
+use mathlib.Core.List.{List, [], _∷_, _++_, List·Memᴰ, List·Memᴰ·cases-cons, List·Memᴰ·head, List·Memᴰ·not-nil, List·Memᴰ·tail}
+use Prim.Native.Nat.{ℕ}
+use native.Mathlib.Omega.{arith}
+use lib.ListN.{getD, length-set}
+use lib.Seq.{getD-set-other}
+use Rattle.layout.specs.Bytes.{bytes, lowBytes, lowNumber, number}
+use Rattle.layout.specs.Entry.{directNumber, directOf, entryNumber, entryOf, indirectNumber, indirectOf}
+use Rattle.layout.specs.Form.{illFormed}
+use Rattle.layout.specs.Permissions.{within}
+use Rattle.layout.specs.SipHash.{absorb, add64, compress, finish, padded, rotl, siphash, sipRound, word}
+use Rattle.layout.specs.Tag.{tagOf}
+use Rattle.layout.specs.declared.entry.Entry.{Entry}
+use Rattle.machine.specs.Demand3.{above, Accepted, Alike, Closed, Demand3, In, issuedIn, itself, LockedFor, NoReset, Secret}
+use Rattle.machine.specs.Issuing.{passOver, seek}
+use Rattle.machine.specs.Line.{walk}
+use Rattle.machine.specs.Operations.{Name}
+use Rattle.machine.specs.Parts.{at, cleared, put, size}
+use Rattle.machine.specs.Requests.{Call, reading}
+use Rattle.machine.specs.Steps.{Answer, answer, decide, Machine, run, step}
+use Rattle.machine.specs.Uses.{before, changed, derives, First, first, listOf, locks7, Premises, read, reset1, revokes}
+
+-- ---- a token derived before the lock is closed by the revoke
+
+-- demand 3, for a token whose premises are met
+closed-by : Demand3 → (σ : Machine) (f : First) (qs : List Call) (r : Call) (a : List Call) (q : Call) (b : List Call) (k : Name) → Premises σ f qs r a q b k
+    → (zs : List Call) → NoReset zs → (List·Memᴰ k (issuedIn (step (run σ a) q) (b ++ (r ∷ zs))) → ⊥) → Closed (run (step (run (run σ (listOf f)) qs) r) zs) k
+unfolding Demand3
+closed-by d σ f qs r a q b k p zs n =
+    let τ : Machine = run σ (listOf f) in
+    let same : Alike (at (τ .table) (f .entry)) τ τ = record { state = refl; table = refl; long = refl; outside = λ x o. refl } in
+    d σ (f .key0) (f .key1) (f .firstNonce) [] (p .accepted) (f .follows) (p .oneReset) (f .entry) (f .task) (p .locked) τ τ same same qs (p .noReset) (p .noneCarries)
+    .closed r (p .revoked) zs n a q b (p .whole) k (p .given) (p .under)
+
+abbrev child : Name
+child = record { number = 1; tag = 63154 }
+
+-- the premises are met, with a read by 8, which is refused, before the revoke; and the revoke issues the root alone
+pub child-premises :
+    Premises before (first 1 (derives ∷ locks7 ∷ [])) (read 0 8 ∷ []) (revokes 0) (reset1 1 ∷ []) derives (locks7 ∷ read 0 8 ∷ []) child
+    × (List·Memᴰ child (issuedIn (step (run before (reset1 1 ∷ [])) derives) (locks7 ∷ read 0 8 ∷ revokes 0 ∷ [])) → ⊥)
+unfolding before bytes number lowBytes lowNumber directNumber directOf entryNumber entryOf indirectNumber indirectOf illFormed within absorb add64 compress finish padded rotl siphash sipRound word tagOf passOver seek walk at cleared put size decide step answer
+child-premises = (
+  record {
+    accepted = refl;
+    oneReset = (λ e. e, (λ e. e, tt));
+    locked = record { direct = refl; locked = refl; held = refl };
+    noReset = (λ e. e, tt);
+    noneCarries = (λ e. omega arith, tt);
+    revoked = record { before = (λ e. absurd e, tt); names = refl; accepted = refl };
+    whole = refl;
+    given = List·Memᴰ·head refl;
+    under = record { owner = 0; owns = above {n = 1} {m = 0} (record { indirect = refl; holds = refl }) (itself refl); byte = 2; theirs = omega arith; ours = omega arith };
+  },
+  λ h. once (List·Memᴰ·cases-cons h),
+)
+  where
+    once : (child ≡ record { number = 0; tag = 20639 }) ⊎ List·Memᴰ child [] → ⊥
+    once (inl e) = omega (arith, ap (λ (x : Name). x .number) e)
+    once (inr m) = List·Memᴰ·not-nil m
+
+pub child-closed : Demand3 → Closed (run before (reset1 1 ∷ derives ∷ locks7 ∷ read 0 8 ∷ revokes 0 ∷ [])) child
+child-closed d =
+    closed-by d before (first 1 (derives ∷ locks7 ∷ [])) (read 0 8 ∷ []) (revokes 0) (reset1 1 ∷ []) derives (locks7 ∷ read 0 8 ∷ []) child (child-premises .0) [] tt (child-premises .1)
+
+-- ---- "none carrying t" is needed: a read by the holder tells two copies apart
+
+-- a copy that differs in one byte of the segment of e
+one-byte : (e : Entry) (σ : Machine) (x v : ℕ) → In e x → Alike e σ (changed σ x v)
+one-byte e σ x v i =
+    record {
+      state = refl;
+      table = refl;
+      long = sym (length-set (σ .memory) x v);
+      outside = λ y o. sym (getD-set-other (σ .memory) x y v 0 (λ p. o (rw p i)));
+    }
+
+-- the first byte of the first answer
+firstByte : List Answer → ℕ
+firstByte [] = 0
+firstByte (a ∷ rest) = getD (a .buffer) 0 0
+
+-- the other premises hold, and what demand 3 claims fails
+pub holder-reads :
+    let τ : Machine = run before (listOf (first 1 (locks7 ∷ []))) in
+    let e : Entry = at (τ .table) 0 in
+    Accepted before (reset1 1) × LockedFor τ 0 7 × Alike e τ (changed τ 3 5)
+    × (Secret before (listOf (first 1 (locks7 ∷ []))) 0 e τ (changed τ 3 5) (read 3 7 ∷ []) → ⊥)
+unfolding before firstByte bytes number lowBytes lowNumber directNumber directOf entryNumber entryOf indirectNumber indirectOf illFormed within absorb add64 compress finish padded rotl siphash sipRound word tagOf passOver seek walk at cleared put size decide step answer
+holder-reads =
+    let τ : Machine = run before (listOf (first 1 (locks7 ∷ []))) in
+    (refl, record { direct = refl; locked = refl; held = refl }, one-byte (at (τ .table) 0) τ 3 5 (omega arith, omega arith), λ s. let z : _≡_ {A = ℕ} 9 5 = ap firstByte (s .same) in omega arith)
+
+-- ---- "unless the same number and tag were issued again" is needed: a token opens again
+
+abbrev rootName : Name
+rootName = record { number = 0; tag = 0 }
+
+-- The first nonce is such that two revokes in a row bring the first tag back: the first gives tag 23730, and the second, which passes over that
+-- one alone, gives tag 0. Between them the token is refused; after them a read through it is granted, to whatever task.
+pub opens-again :
+    let r : Call = revokes 0 in
+    let z : Call = revokes 1669850299335966720 in
+    let τ : Machine = run before (listOf (first 87419 (locks7 ∷ []))) in
+    Premises before (first 87419 (locks7 ∷ [])) [] r [] (reset1 87419) (locks7 ∷ []) rootName
+    × (answer (step τ r) (read 0 0) .reply .refusal ≡ 2)
+    × List·Memᴰ rootName (issuedIn (step before (reset1 87419)) (locks7 ∷ r ∷ z ∷ []))
+    × (Closed (run (step τ r) (z ∷ [])) rootName → ⊥)
+unfolding before bytes number lowBytes lowNumber directNumber directOf entryNumber entryOf indirectNumber indirectOf illFormed within absorb add64 compress finish padded rotl siphash sipRound word tagOf passOver seek walk at cleared put size decide step answer
+opens-again = (
+  record {
+    accepted = refl;
+    oneReset = (λ e. e, tt);
+    locked = record { direct = refl; locked = refl; held = refl };
+    noReset = tt;
+    noneCarries = tt;
+    revoked = record { before = tt; names = refl; accepted = refl };
+    whole = refl;
+    given = List·Memᴰ·head refl;
+    under = record { owner = 0; owns = itself refl; byte = 0; theirs = omega arith; ours = omega arith };
+  },
+  refl,
+  List·Memᴰ·tail (List·Memᴰ·head refl),
+  λ c. c reading 0 0 (0 ∷ []) refl refl refl,
+)

@@ -1,0 +1,24 @@
+-- What a refusal tells, and what a refused request leaves as it was (01, "Where a request stops").
+-- Assumes nothing.
+use mathlib.Core.Path.{_≡_}
+use mathlib.Core.Logic.{_≢_}
+use mathlib.Core.List.{[]}
+use Prim.Native.Nat.{ℕ, _≤_}
+use Rattle.machine.specs.Requests.{Call}
+use Rattle.machine.specs.Steps.{answer, decision, Machine, step}
+
+-- one of 01's numbers; only 3 and 4 have a place: 1 "the named entry", 2 "an ancestor"
+pub record Told (refusal place : ℕ) : Type 0 where
+  pub least : 1 ≤ refusal
+  pub most : refusal ≤ 11
+  pub line : 3 ≤ refusal → refusal ≤ 4 → (1 ≤ place) × (place ≤ 2)
+  pub plain : refusal ≢ 3 → refusal ≢ 4 → place ≡ 0
+
+-- "A refusal returns its number and zero for each token; table, memory, state and the caller's buffer keep their bytes."
+pub record Untouched (σ : Machine) (q : Call) : Type 0 where
+  pub machine : step σ q ≡ σ
+  pub buffer : answer σ q .buffer ≡ q .buffer
+  pub first : answer σ q .reply .first ≡ 0
+  pub second : answer σ q .reply .second ≡ 0
+  pub dropped : answer σ q .reply .dropped ≡ 0
+  pub issued : decision σ q .issued ≡ []

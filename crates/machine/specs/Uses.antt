@@ -1,0 +1,75 @@
+-- Small lists that demand 3 is held against: 8 bytes of memory, a table of two entries, key 0.
+-- Assumes nothing.
+use mathlib.Core.Path.{_≡_}
+use mathlib.Core.List.{List, [], _∷_, _++_, List·Memᴰ}
+use Prim.Native.Nat.{ℕ}
+use lib.ListN.{replicate, set}
+use Rattle.machine.specs.Demand3.{Accepted, FirstRevoke, LockedFor, NoneCarries, NoReset, resetCall, Under}
+use Rattle.machine.specs.Operations.{Name}
+use Rattle.machine.specs.Parts.{at}
+use Rattle.machine.specs.Requests.{access, Call, derive, lock, reading, Request, revoke}
+use Rattle.machine.specs.Steps.{decision, Machine, run, step}
+
+-- ---- the premises of demand 3, in one place
+
+-- the first list, its reset and what follows it; the entry that it leaves locked, and for which task
+pub record First : Type 0 where
+  pub key0 : ℕ
+  pub key1 : ℕ
+  pub firstNonce : ℕ
+  pub follows : List Call
+  pub entry : ℕ
+  pub task : ℕ
+
+abbrev pub resetOf : First → Call
+resetOf f = resetCall (f .key0) (f .key1) (f .firstNonce) []
+
+abbrev pub listOf : First → List Call
+listOf f = resetOf f ∷ f .follows
+
+-- the further requests qs and the revoke r; the token k that the request q gave, with a before q and b after it
+pub record Premises (σ : Machine) (f : First) (qs : List Call) (r : Call) (a : List Call) (q : Call) (b : List Call) (k : Name) : Type 0 where
+  pub accepted : Accepted σ (resetOf f)
+  pub oneReset : NoReset (f .follows)
+  pub locked : LockedFor (run σ (listOf f)) (f .entry) (f .task)
+  pub noReset : NoReset qs
+  pub noneCarries : NoneCarries (f .task) qs
+  pub revoked : FirstRevoke (run σ (listOf f)) (f .entry) qs r
+  pub whole : a ++ (q ∷ b) ≡ listOf f ++ qs
+  pub given : List·Memᴰ k (decision (run σ a) q .issued)
+  pub under : Under (step (run σ a) q .table) (at (run σ (listOf f) .table) (f .entry)) k
+
+-- ---- what the lists are made of
+
+-- before reset
+unfoldable pub before : Machine
+before = record { state = record { key0 = 0; key1 = 0; last = 0; next = 0 }; table = replicate 64 0; memory = replicate 8 9 }
+
+abbrev plain : Request → Call
+plain q = record { request = q; buffer = [] }
+
+-- bytes 2 to 4 of the root for reading; the root locked for 7
+abbrev pub derives : Call
+derives = plain (derive 0 2 3 4 0)
+
+abbrev pub locks7 : Call
+locks7 = plain (lock 0 7)
+
+-- the token 0 is the root's as reset gives it: number 0, tag 0
+abbrev pub revokes : (token : ℕ) → Call
+revokes k = plain (revoke k 0)
+
+-- one byte at an offset of the root, through that token
+abbrev pub read : (offset task : ℕ) → Call
+read o u = record { request = access reading o u; buffer = 0 ∷ [] }
+
+abbrev pub reset1 : (firstNonce : ℕ) → Call
+reset1 ν = resetCall 0 0 ν []
+
+-- the root is left locked for 7
+abbrev pub first : (firstNonce : ℕ) → (follows : List Call) → First
+first ν cs = record { key0 = 0; key1 = 0; firstNonce = ν; follows = cs; entry = 0; task = 7 }
+
+-- the machine with the byte v at x
+abbrev pub changed : Machine → (x v : ℕ) → Machine
+changed σ x v = record { state = σ .state; table = σ .table; memory = set (σ .memory) x v }
