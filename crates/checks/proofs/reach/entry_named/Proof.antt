@@ -1,0 +1,16 @@
+-- `checks::reach::entry_named` meets its contract: the token is read, and beyond the table nothing is named.
+-- Assumes nothing.
+use borrow.Author.Needs.{needs}
+use Rattle.checks.proofs.ReachLaws.{entry-in, entry-out}
+use Rattle.checks.proofs.reach.entry_named.Statement.{statement}
+use Rattle.checks.proofs.reach.entry_named.Tie as tie
+
+pub entry-named-spec : {M : Type 1} → statement M
+entry-named-spec =
+    tie.close
+    (tie.spec
+    (λ c κs. search needs)
+    (λ c κs. search needs)
+    (λ c. search needs)
+    (λ c. let e = c .before .before .before in entry-in _ _ _ (e .before .before .before .read .ensures) (e .entry-at .result) (e .entry-at .ensures) (e .before .if1 .taken))
+    (λ c. entry-out _ _ _ (c .before .before .read .ensures) (c .if1 .left)))
