@@ -1,3 +1,5 @@
+pub mod Basics
 pub mod Examples
 pub mod SliceLaws
 pub mod TableLaws
+pub mod Written
