@@ -1,5 +1,7 @@
 pub mod Basics
 pub mod Examples
+pub mod Fates
 pub mod SliceLaws
+pub mod Sums
 pub mod TableLaws
 pub mod Written
