@@ -1,4 +1,5 @@
 pub mod Basics
+pub mod Deeds
 pub mod Examples
 pub mod Fates
 pub mod SliceLaws
