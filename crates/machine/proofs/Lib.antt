@@ -1,7 +1,10 @@
 pub mod Basics
 pub mod Deeds
+pub mod Effects
 pub mod Examples
 pub mod Fates
+pub mod FromReset
+pub mod Runs
 pub mod SliceLaws
 pub mod Sums
 pub mod TableLaws
