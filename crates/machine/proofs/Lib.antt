@@ -8,4 +8,5 @@ pub mod Runs
 pub mod SliceLaws
 pub mod Sums
 pub mod TableLaws
+pub mod Theorem
 pub mod Written
