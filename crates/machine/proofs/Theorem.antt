@@ -2,6 +2,7 @@
 -- Assumes nothing.
 use mathlib.Core.Path.{_≡_, refl, sym, ap, ap₂, subst, _∙_}
 use mathlib.Core.Logic.{_≢_}
+use mathlib.Core.Bool.{true}
 use mathlib.Core.List.{List, [], _∷_, _++_, append-assoc, List·Memᴰ}
 use Prim.Native.Nat.{ℕ, suc, _+_, _-_, _≤_, _<_}
 use native.Mathlib.Omega.{arith}
@@ -254,3 +255,246 @@ module _ (ρ : Machine) (inv₀ : Well ρ) (after qs : List Call) (nr : NoReset 
       (neqb→ne (at (D .table) (numberOf token) .kind) 0 (search))
       (eqb→eq (at (D .table) (numberOf token) .tag) (named token .tag) (search) ∙ et)
       (search, search)
+
+-- ---- secrecy
+
+-- two copies that differ in the locked segment of entry s only, which e was
+record Twin (e : Entry) (s t : ℕ) (τ₁ τ₂ : Machine) : Type 0 where
+  alike : Alike e τ₁ τ₂
+  lock : LockedFor τ₁ s t
+  same : core (at (τ₁ .table) s) ≡ core e
+  inv : Well τ₁
+
+-- equal decisions, since no byte is looked at
+decided : (e : Entry) (τ₁ τ₂ : Machine) (q : Call) → Alike e τ₁ τ₂ → decision τ₁ q ≡ decision τ₂ q
+decided e τ₁ τ₂ q a i = decide (a .long i) (a .state i) (a .table i) (q .request) (q .buffer)
+
+dec-in : (e : Entry) (x : ℕ) → Dec (In e x)
+dec-in e x = go (decLe (e .base) x) (decLt x (e .base + e .length))
+  where
+    go : Dec (e .base ≤ x) → Dec (x < e .base + e .length) → Dec (In e x)
+    go (yes i) (yes j) = yes (i, j)
+    go (yes i) (no j) = no (λ h. j (h .1))
+    go (no i) j = no (λ h. i (h .0))
+
+dec-revokes : (q : Request) (s : ℕ) → Dec (Revokes q s)
+dec-revokes (reset k0 k1 ν) s = no (λ h. h)
+dec-revokes (access w k u) s = no (λ h. h)
+dec-revokes (create k u l x p c) s = no (λ h. h)
+dec-revokes (merge j k u c) s = no (λ h. h)
+dec-revokes (derive k o l p c) s = no (λ h. h)
+dec-revokes (executeOnly k c) s = no (λ h. h)
+dec-revokes (clone k) s = no (λ h. h)
+dec-revokes (release k) s = no (λ h. h)
+dec-revokes (lock k u) s = no (λ h. h)
+dec-revokes (unlock k u) s = no (λ h. h)
+dec-revokes (revoke k c) s = ℕ-discrete (numberOf k) s
+
+module _ (e : Entry) (s t : ℕ) (τ₁ τ₂ : Machine) (tw : Twin e s t τ₁ τ₂) (q : Call) where
+  same : decision τ₁ q ≡ decision τ₂ q
+  same = decided e τ₁ τ₂ q (tw .alike)
+
+  -- the answers are the same if what is read is
+  same-answer : bufferAfter (decision τ₁ q .effect) (τ₁ .memory) (q .buffer) ≡ bufferAfter (decision τ₁ q .effect) (τ₂ .memory) (q .buffer) → answer τ₁ q ≡ answer τ₂ q
+  unfolding answer
+  same-answer h =
+      ap₂ (λ r b. record { reply = r; buffer = b }) (ap (λ (d : Decision). d .reply) same) (h ∙ ap (λ (d : Decision). bufferAfter (d .effect) (τ₂ .memory) (q .buffer)) same)
+
+  -- memories of equal length stay so
+  same-long : length (memoryAfter (decision τ₁ q .effect) (τ₁ .memory)) ≡ length (memoryAfter (decision τ₁ q .effect) (τ₂ .memory))
+  same-long = memory-long (decision τ₁ q .effect) (τ₁ .memory) ∙ tw .alike .long ∙ sym (memory-long (decision τ₁ q .effect) (τ₂ .memory))
+
+  -- a byte outside the segment
+  same-outside : (x : ℕ) → (In e x → ⊥) → getD (memoryAfter (decision τ₁ q .effect) (τ₁ .memory)) x 0 ≡ getD (memoryAfter (decision τ₁ q .effect) (τ₂ .memory)) x 0
+  same-outside x i = memory-agree (decision τ₁ q .effect) (τ₁ .memory) (τ₂ .memory) x (tw .alike .long) (tw .alike .outside x i)
+
+  -- a request of another task that is no accepted revoke of the segment
+  module _ (nr : NotReset q) (h : taskOf (q .request) ≢ t) (r : Spares τ₁ q s) where
+    g : Guard τ₁ s (decision τ₁ q)
+    g = guard τ₁ s t q (tw .inv) nr (tw .lock) h r
+
+    clear : (x : ℕ) → Touches (decision τ₁ q .effect) x → In e x → ⊥
+    clear x tc i = g .untouched x tc (subst (λ (y : Entry). In y x) (sym (tw .same)) i)
+
+    calm-answer : answer τ₁ q ≡ answer τ₂ q
+    calm-answer = same-answer (buffer-agree (decision τ₁ q .effect) (τ₁ .memory) (τ₂ .memory) (q .buffer) (tw .alike .long) (λ x tc. tw .alike .outside x (clear x tc)))
+
+    calm-alike : Alike e (step τ₁ q) (step τ₂ q)
+    unfolding step
+    calm-alike =
+        record {
+          state = ap (λ (d : Decision). d .state) same;
+          table = ap (λ (d : Decision). d .table) same;
+          long = same-long ∙ ap (λ (d : Decision). length (memoryAfter (d .effect) (τ₂ .memory))) same;
+          outside = λ x i. same-outside x i ∙ ap (λ (d : Decision). getD (memoryAfter (d .effect) (τ₂ .memory)) x 0) same;
+        }
+
+    calm : Twin e s t (step τ₁ q) (step τ₂ q)
+    calm = record { alike = calm-alike; lock = lock-step τ₁ s t q (tw .lock) g; same = core-step τ₁ s q g ∙ tw .same; inv = step-well τ₁ q (tw .inv) nr }
+
+    calm-keeps : (x : ℕ) → In e x → getD (step τ₁ q .memory) x 0 ≡ getD (τ₁ .memory) x 0
+    unfolding step
+    calm-keeps x i = memory-other (decision τ₁ q .effect) (τ₁ .memory) x (λ tc. clear x tc i)
+
+  -- the accepted revoke of the segment
+  module _ (v : Revokes (q .request) s) (a : Accepted τ₁ q) where
+    wp : Wipe τ₁ s q
+    wp = wipe τ₁ s (q .request) (q .buffer) v a
+
+    effect-is : decision τ₁ q .effect ≡ store (e .base) (replicate (e .length) 0)
+    effect-is = ap (λ (d : Decision). d .effect) (wp .is) ∙ ap (λ (x : Entry). store (x .base) (replicate (x .length) 0)) (tw .same)
+
+    zero-inside : (m : List ℕ) (x : ℕ) → In e x → getD (memoryAfter (decision τ₁ q .effect) m) x 0 ≡ 0
+    zero-inside m x i = rw effect-is (zeros (e .length) m (e .base) x (i .0) (i .1))
+
+    wipe-answer : answer τ₁ q ≡ answer τ₂ q
+    wipe-answer = same-answer (rw effect-is refl)
+
+    wipe-memory : memoryAfter (decision τ₁ q .effect) (τ₁ .memory) ≡ memoryAfter (decision τ₁ q .effect) (τ₂ .memory)
+    wipe-memory = ext-getD 0 (memoryAfter (decision τ₁ q .effect) (τ₁ .memory)) (memoryAfter (decision τ₁ q .effect) (τ₂ .memory)) same-long (λ x l. go x (dec-in e x))
+      where
+        go : (x : ℕ) → Dec (In e x) → getD (memoryAfter (decision τ₁ q .effect) (τ₁ .memory)) x 0 ≡ getD (memoryAfter (decision τ₁ q .effect) (τ₂ .memory)) x 0
+        go x (yes i) = zero-inside (τ₁ .memory) x i ∙ sym (zero-inside (τ₂ .memory) x i)
+        go x (no i) = same-outside x i
+
+    -- the copies are one from then on
+    wipe-equal : step τ₁ q ≡ step τ₂ q
+    unfolding step
+    wipe-equal =
+        let memory : memoryAfter (decision τ₁ q .effect) (τ₁ .memory) ≡ memoryAfter (decision τ₂ q .effect) (τ₂ .memory) = wipe-memory ∙ ap (λ (d : Decision). memoryAfter (d .effect) (τ₂ .memory)) same in
+        λ i. record { state = same i .state; table = same i .table; memory = memory i }
+
+    wipe-zeros : take (e .length) (drop (e .base) (step τ₁ q .memory)) ≡ replicate (e .length) 0
+    unfolding step
+    wipe-zeros =
+        let whole = range (length (τ₁ .memory)) (at (τ₁ .table) s) (tw .inv .good s) (omega (arith, wp .direct)) in
+        let fit : e .base + e .length ≤ length (τ₁ .memory) = subst (λ (x : Entry). x .base + x .length ≤ length (τ₁ .memory)) (tw .same) (whole .1) in
+        all-zeros (memoryAfter (decision τ₁ q .effect) (τ₁ .memory)) (e .base) (e .length) (omega (arith, memory-long (decision τ₁ q .effect) (τ₁ .memory)))
+        (λ x i j. zero-inside (τ₁ .memory) x (i, j))
+
+alike-refl : (e : Entry) (σ : Machine) → Alike e σ σ
+alike-refl e σ = record { state = refl; table = refl; long = refl; outside = λ x i. refl }
+
+alike-sym : {e : Entry} {σ τ : Machine} → Alike e σ τ → Alike e τ σ
+alike-sym a = record { state = sym (a .state); table = sym (a .table); long = sym (a .long); outside = λ x i. sym (a .outside x i) }
+
+alike-trans : {e : Entry} {ρ σ τ : Machine} → Alike e ρ σ → Alike e σ τ → Alike e ρ τ
+alike-trans a b = record { state = a .state ∙ b .state; table = a .table ∙ b .table; long = a .long ∙ b .long; outside = λ x i. a .outside x i ∙ b .outside x i }
+
+-- while no revoke of the segment is accepted, the copies stay twins and each keeps its bytes of the segment
+record Kept (e : Entry) (s t : ℕ) (τ₁ σ₁ σ₂ : Machine) : Type 0 where
+  twin : Twin e s t σ₁ σ₂
+  bytes : (x : ℕ) → In e x → getD (σ₁ .memory) x 0 ≡ getD (τ₁ .memory) x 0
+
+twin-run : (e : Entry) (s t : ℕ) (τ₁ τ₂ : Machine) (qs : List Call) → Twin e s t τ₁ τ₂ → NoReset qs → NoneCarries t qs → Unrevoked τ₁ qs s → Kept e s t τ₁ (run τ₁ qs) (run τ₂ qs)
+twin-run e s t τ₁ τ₂ [] tw nr n u = record { twin = tw; bytes = λ x i. refl }
+twin-run e s t τ₁ τ₂ (q ∷ qs) tw nr n u =
+    let k : Kept e s t (step τ₁ q) (run (step τ₁ q) qs) (run (step τ₂ q) qs) =
+    twin-run e s t (step τ₁ q) (step τ₂ q) qs (calm e s t τ₁ τ₂ tw q (nr .0) (n .0) (u .0)) (nr .1) (n .1) (u .1) in
+    record { twin = k .twin; bytes = λ x i. k .bytes x i ∙ calm-keeps e s t τ₁ τ₂ tw q (nr .0) (n .0) (u .0) x i }
+
+-- the answers are the same, and the copies agree outside the segment, revoked or not
+record Same (e : Entry) (τ₁ τ₂ : Machine) (qs : List Call) : Type 0 where
+  said : answers τ₁ qs ≡ answers τ₂ qs
+  left : Alike e (run τ₁ qs) (run τ₂ qs)
+
+same-run : (e : Entry) (s t : ℕ) (τ₁ τ₂ : Machine) (qs : List Call) → Twin e s t τ₁ τ₂ → NoReset qs → NoneCarries t qs → Same e τ₁ τ₂ qs
+same-run e s t τ₁ τ₂ [] tw nr n = record { said = refl; left = tw .alike }
+same-run e s t τ₁ τ₂ (q ∷ qs) tw nr n =
+    go (λ r. same-run e s t (step τ₁ q) (step τ₂ q) qs (calm e s t τ₁ τ₂ tw q (nr .0) (n .0) r) (nr .1) (n .1)) (dec-revokes (q .request) s) (turned τ₁ q)
+  where
+    next : answer τ₁ q ≡ answer τ₂ q → Same e (step τ₁ q) (step τ₂ q) qs → Same e τ₁ τ₂ (q ∷ qs)
+    next a k = record { said = ap₂ (λ x y. x ∷ y) a (k .said); left = k .left }
+
+    other : (Spares τ₁ q s → Same e (step τ₁ q) (step τ₂ q) qs) → Spares τ₁ q s → Same e τ₁ τ₂ (q ∷ qs)
+    other f r = next (calm-answer e s t τ₁ τ₂ tw q (nr .0) (n .0) r) (f r)
+
+    go : (Spares τ₁ q s → Same e (step τ₁ q) (step τ₂ q) qs) → Dec (Revokes (q .request) s) → Turned τ₁ q → Same e τ₁ τ₂ (q ∷ qs)
+    go f (no v) k = other f (λ w a. v w)
+    go f (yes v) (taken a p d) =
+        next (wipe-answer e s t τ₁ τ₂ tw q v a)
+        (subst (λ (σ : Machine). Same e (step τ₁ q) σ qs) (wipe-equal e s t τ₁ τ₂ tw q v a) (record { said = refl; left = alike-refl e (run (step τ₁ q) qs) }))
+    go f (yes v) (away i j l na) = other f (λ w a. na a)
+
+-- what is accepted in one copy is accepted in the other
+accepted-same : (e : Entry) (τ₁ τ₂ : Machine) (q : Call) → Alike e τ₁ τ₂ → Accepted τ₁ q → Accepted τ₂ q
+unfolding answer
+accepted-same e τ₁ τ₂ q a h = subst (λ (d : Decision). d .reply .refusal ≡ 0) (decided e τ₁ τ₂ q a) h
+
+unrevoked-same : (e : Entry) (s t : ℕ) (τ₁ τ₂ : Machine) (qs : List Call) → Twin e s t τ₁ τ₂ → NoReset qs → NoneCarries t qs → Unrevoked τ₁ qs s → Unrevoked τ₂ qs s
+unrevoked-same e s t τ₁ τ₂ [] tw nr n u = tt
+unrevoked-same e s t τ₁ τ₂ (q ∷ qs) tw nr n u = (
+  (λ v a. u .0 v (accepted-same e τ₂ τ₁ q (alike-sym (tw .alike)) a)),
+  unrevoked-same e s t (step τ₁ q) (step τ₂ q) qs (calm e s t τ₁ τ₂ tw q (nr .0) (n .0) (u .0)) (nr .1) (n .1) (u .1),
+)
+
+-- ---- the whole
+
+-- a copy of σ, and another, as twins
+twins : (σ : Machine) (s t : ℕ) (τ₁ τ₂ : Machine) → Well σ → LockedFor σ s t → Alike (at (σ .table) s) σ τ₁ → Alike (at (σ .table) s) σ τ₂ → Twin (at (σ .table) s) s t τ₁ τ₂
+twins σ s t τ₁ τ₂ inv lk a b =
+    record {
+      alike = alike-trans (alike-sym a) b;
+      lock = record { direct = subst (λ (u : List ℕ). at u s .kind ≡ 1) (a .table) (lk .direct); locked = subst (λ (u : List ℕ). at u s .locked ≡ true) (a .table) (lk .locked); held = subst (λ (u : List ℕ). at u s .holder ≡ t) (a .table) (lk .held) };
+      same = ap (λ (u : List ℕ). core (at u s)) (sym (a .table));
+      inv = rw (a .long, a .state, a .table) at inv;
+    }
+
+-- what was given by a request of the whole list, the reset in front, was given in a run from what reset left
+record From (σ : Machine) (first : Call) (l a : List Call) (q : Call) (b : List Call) : Type 0 where
+  way : List Call
+  comes : run (step σ first) way ≡ step (run σ a) q
+  all : way ++ b ≡ l
+
+from : (σ : Machine) (first : Call) (l a : List Call) (q : Call) (b : List Call) → a ++ (q ∷ b) ≡ first ∷ l → From σ first l a q b
+from σ first l [] q b e =
+    let head : q ≡ first = cc in
+    record { way = []; comes = ap (λ (x : Call). step σ x) (sym head); all = cc }
+from σ first l (c ∷ a) q b e =
+    let head : c ≡ first = cc in
+    let tail : a ++ (q ∷ b) ≡ l = cc in
+    record {
+      way = a ++ (q ∷ []);
+      comes = run-append (step σ first) a (q ∷ []) ∙ ap (λ (x : Call). step (run (step σ x) a) q) (sym head);
+      all = append-assoc a (q ∷ []) b ∙ tail;
+    }
+
+pub demand3 : Demand3
+unfolding Demand3
+demand3 σ k0 k1 ν buffer ok after nr s t lk τ₁ τ₂ a b qs nq nc =
+    record {
+      same = same-run e s t τ₁ τ₂ qs tw nq nc .said;
+      alike = same-run e s t τ₁ τ₂ qs tw nq nc .left;
+      kept = λ u. twin-run e s t τ₁ τ₂ qs tw nq nc u .bytes;
+      wiped = λ r f. wipe-zeros e s t (run τ₁ qs) (run τ₂ qs) (twin-run e s t τ₁ τ₂ qs tw nq nc (f .before) .twin) r (f .names) (f .accepted);
+      closed = λ r f zs nz x q y xy k given u fr.
+          let tr : Twin e s t (run τ₁ qs) (run (run ρ after) qs) = twin-run e s t τ₁ (run ρ after) qs ts nq nc (f .before) .twin in
+          let there : run ρ (after ++ qs) ≡ run (run ρ after) qs = run-append ρ after qs in
+          let acc : Accepted (run ρ (after ++ qs)) r = rw there (accepted-same e (run τ₁ qs) (run (run ρ after) qs) r (tr .alike) (f .accepted)) in
+          let one : step (run τ₁ qs) r ≡ step (run ρ (after ++ qs)) r = rw there (wipe-equal e s t (run τ₁ qs) (run (run ρ after) qs) tr r (f .names) (f .accepted)) in
+          let w : From σ first (after ++ qs) x q y = from σ first (after ++ qs) x q y xy in
+          rw one
+          (shut-off ρ inv₀ after qs (none-append after qs nr nq) s t lk nc (unrevoked-same e s t τ₁ (run ρ after) qs ts nq nc (f .before)) r (f .names) acc zs nz
+          (w .way) y (w .all) k (rw (w .comes) u) (rw (w .comes) fr));
+    }
+  where
+    first : Call
+    first = resetCall k0 k1 ν buffer
+
+    ρ : Machine
+    ρ = step σ first
+
+    e : Entry
+    e = at (run ρ after .table) s
+
+    inv₀ : Well ρ
+    inv₀ = well-reset σ k0 k1 ν buffer ok
+
+    inv : Well (run ρ after)
+    inv = run-well ρ after inv₀ nr
+
+    tw : Twin e s t τ₁ τ₂
+    tw = twins (run ρ after) s t τ₁ τ₂ inv lk a b
+
+    ts : Twin e s t τ₁ (run ρ after)
+    ts = twins (run ρ after) s t τ₁ (run ρ after) inv lk a (alike-refl e (run ρ after))
