@@ -1,13 +1,13 @@
 -- Small laws of the tests, of the checks, of the table, of the walk, of the new number and of the nonce that a revoke takes.
 -- Assumes nothing.
-use mathlib.Core.Path.{_≡_, refl, sym, ap, subst, _∙_}
+use mathlib.Core.Path.{_≡_, refl}
 use mathlib.Core.Logic.{_≢_}
 use mathlib.Core.List.{List, [], _∷_}
 use mathlib.Core.Bool.{Bool, true, false, not, _&&_, cond}
-use Prim.Native.Nat.{ℕ, zero, suc, _+_, _-_, _≤_, _<_}
+use Prim.Native.Nat.{ℕ, zero, suc, _+_, _≤_, _<_}
 use native.Mathlib.Omega.{arith}
 use native.Mathlib.Decide.{ℕ-discrete}
-use lib.Dec.{T, leb, ltb, eqb, ltb→lt, eqb→eq, eqb-refl, nltb→le}
+use lib.Dec.{T, ltb, eqb, ltb→lt, eqb→eq, eqb-refl}
 use borrow.Author.Tests.{eqb-true, ltb-true}
 use Rattle.layout.specs.Entry.{Storable}
 use Rattle.layout.specs.Form.{illFormed}
@@ -15,11 +15,11 @@ use Rattle.layout.specs.declared.entry.Entry.{Entry}
 use Rattle.layout.proofs.EntryLaws.{Laid, one, two}
 use Rattle.layout.proofs.FormLaws.{laid}
 use Rattle.layout.proofs.TestLaws.{both}
-use Rattle.machine.specs.Demand3.{above, itself, Linked, Owns}
+use Rattle.machine.specs.Demand3.{above, itself, Owns}
 use Rattle.machine.specs.Issuing.{after, issue, passOver, seek}
-use Rattle.machine.specs.Line.{dead, ill, isDead, isIll, isLocked, Line, linked, links, lockedFrom, owner, ownerOf, parentNumber, parentTag, walk}
+use Rattle.machine.specs.Line.{isDead, isIll, Line, linked, links, ownerOf, parentNumber, parentTag, walk}
 use Rattle.machine.specs.Parts.{at, put, size, State}
-use Rattle.machine.specs.Steps.{pass, stop, Verdict, verdict}
+use Rattle.machine.specs.Steps.{pass, stop, verdict}
 use Rattle.machine.specs.Stops.{Check}
 use Rattle.machine.proofs.TableLaws.{at-other, at-same, size-put}
 

@@ -2,7 +2,7 @@
 -- Assumes nothing.
 use mathlib.Core.Path.{_≡_, refl, sym, ap, subst, _∙_}
 use mathlib.Core.Logic.{_≢_}
-use mathlib.Core.List.{List, [], _∷_, List·Memᴰ, List·Memᴰ·head, List·Memᴰ·tail}
+use mathlib.Core.List.{List, [], _∷_, List·Memᴰ·head, List·Memᴰ·tail}
 use mathlib.Core.Bool.{Bool, true, false, not, _&&_, cond}
 use Prim.Native.Nat.{ℕ, zero, suc, _+_, _-_, _≤_, _<_, _^_}
 use native.Mathlib.Omega.{arith}
@@ -11,23 +11,23 @@ use lib.Bits.{and-le-l, bitAnd}
 use lib.Dec.{T, leb, ltb, eqb, leb→le, ltb→lt, eqb→eq, nltb→le}
 use lib.ListN.{length, replicate, length-replicate}
 use borrow.Author.Tests.{ne-eqb}
-use Rattle.layout.specs.Entry.{direct, directFields, directWidths, free, Storable}
+use Rattle.layout.specs.Entry.{direct, directFields, directWidths, free}
 use Rattle.layout.specs.Fields.{Fit}
 use Rattle.layout.specs.Permissions.{X}
 use Rattle.layout.specs.Token.{named}
 use Rattle.layout.specs.declared.entry.Entry.{Entry}
-use Rattle.machine.specs.Demand3.{above, In, IsReset, itself, Linked, Owns, Revokes}
-use Rattle.machine.specs.FromReset.{Has, Inside, owned, ownedInAll}
+use Rattle.machine.specs.Demand3.{above, In, IsReset, itself, Owns, Revokes}
+use Rattle.machine.specs.FromReset.{Has, Inside, owned}
 use Rattle.machine.specs.Issuing.{newNumber}
-use Rattle.machine.specs.Line.{dead, ill, isDead, isIll, isLocked, Line, linked, lineOf, lockedFrom, owner, ownerOf, parentNumber}
-use Rattle.machine.specs.Operations.{childOf, climb, Decision, Effect, fresh, grant, grantCreate, grantDerive, granted, grantLock, grantMerge, grantRevoke, load, mergedOf, Name, namedEntry, nameOf, nothing, numberOf, partOf, plainly, recount, relock, Reply, restOf, revokedOf, revokeNonce, store, tokenOf, transfer}
+use Rattle.machine.specs.Line.{dead, ill, isLocked, Line, linked, lineOf, lockedFrom, owner, ownerOf, parentNumber}
+use Rattle.machine.specs.Operations.{childOf, climb, Effect, fresh, grant, grantCreate, grantDerive, granted, grantLock, grantMerge, grantRevoke, mergedOf, Name, namedEntry, nameOf, nothing, numberOf, partOf, recount, relock, Reply, restOf, revokedOf, revokeNonce, store, tokenOf, transfer}
 use Rattle.machine.specs.Parts.{at, moved, put, size, spent, State}
 use Rattle.machine.specs.Requests.{access, clone, create, derive, executeOnly, fetching, lock, merge, reading, release, Request, reset, revoke, taskOf, unlock, Way, writing}
 use Rattle.machine.specs.Stops.{checks}
-use Rattle.machine.proofs.Basics.{by-both, by-cond, Live, neqb→ne, owner-direct, parent, pass-up, Passed, put-all, put2-all, seek-free, T-false, T-true, walk-owns}
+use Rattle.machine.proofs.Basics.{by-both, by-cond, Live, neqb→ne, owner-direct, parent, pass-up, Passed, put-all, put2-all, seek-free, T-false, walk-owns}
 use Rattle.machine.proofs.Fates.{core, Deed, Fate, gone, Inv, issued, kept, Shut, Source, Touches}
 use Rattle.machine.proofs.Sums.{owned-direct, owned-other, sum-put2, sum-same}
-use Rattle.machine.proofs.TableLaws.{at-other, at-same, in-table, put-out, size-put}
+use Rattle.machine.proofs.TableLaws.{at-other, in-table, put-out, size-put}
 use Rattle.machine.proofs.Written.{count-fit, counted, direct-fit, free-good, Good, issue-direct, issue-indirect, parent-named, range, recount-good, relock-good}
 
 -- nobody's bytes go to another owner

@@ -1,11 +1,8 @@
 -- What holds from reset on does hold.
 -- Assumes nothing.
 use mathlib.Core.Path.{sym, _∙_}
-use mathlib.Core.List.{List, _∷_}
-use Prim.Native.Nat.{ℕ}
-use Rattle.machine.specs.Demand3.{Accepted, NoReset, resetCall}
-use Rattle.machine.specs.FromReset.{FromReset, Sound}
-use Rattle.machine.specs.Requests.{Call}
+use Rattle.machine.specs.Demand3.{resetCall}
+use Rattle.machine.specs.FromReset.{FromReset}
 use Rattle.machine.specs.Steps.{Machine, run, step}
 use Rattle.machine.proofs.Runs.{run-long, run-sum, run-well, sum-reset, Well, well-reset}
 

@@ -2,26 +2,26 @@
 -- Assumes nothing.
 use mathlib.Core.Path.{_≡_, refl, sym, ap, subst, _∙_}
 use mathlib.Core.Logic.{_≢_}
-use mathlib.Core.Bool.{Bool, true}
+use mathlib.Core.Bool.{true}
 use mathlib.Core.List.{List, [], _∷_, _++_, List·Memᴰ, Memᴰ·append-left, Memᴰ·append-right}
-use Prim.Native.Nat.{ℕ, _+_, _≤_, _<_}
+use Prim.Native.Nat.{ℕ, _≤_, _<_}
 use native.Mathlib.Omega.{arith}
 use native.Mathlib.Decide.{decLt}
 use lib.Dec.{eqb, leb→le}
 use lib.ListN.{length}
 use Rattle.layout.specs.declared.entry.Entry.{Entry}
-use Rattle.machine.specs.Demand3.{Accepted, In, IsReset, issuedIn, Linked, NoReset, resetCall}
-use Rattle.machine.specs.FromReset.{Has, Owned, owned, ownedInAll}
-use Rattle.machine.specs.Operations.{Decision, Effect, grant, grantReset, nameOf, nothing}
+use Rattle.machine.specs.Demand3.{Accepted, IsReset, issuedIn, NoReset, resetCall}
+use Rattle.machine.specs.FromReset.{ownedInAll}
+use Rattle.machine.specs.Operations.{Decision, grant, grantReset, nameOf, nothing}
 use Rattle.machine.specs.Parts.{at, cleared, mostEntries, mostMemory, put, root, size, State}
 use Rattle.machine.specs.Requests.{access, Call, clone, create, derive, executeOnly, lock, merge, release, Request, reset, revoke, unlock}
-use Rattle.machine.specs.Steps.{answer, decide, decision, Machine, memoryAfter, pass, refused, run, settle, step, stop, Verdict, verdict}
+use Rattle.machine.specs.Steps.{answer, decide, decision, Machine, pass, refused, run, settle, step, stop, Verdict, verdict}
 use Rattle.machine.specs.Stops.{Check, checks}
 use Rattle.machine.proofs.Basics.{by-cond, numbered, passed, Passed, put-all, stopped}
 use Rattle.machine.proofs.Deeds.{deed-granted, deed-none}
 use Rattle.machine.proofs.Effects.{memory-long}
 use Rattle.machine.proofs.Fates.{core, Deed, Inv, inv-step, new-given, old-core}
-use Rattle.machine.proofs.Sums.{owned-direct, sum-first}
+use Rattle.machine.proofs.Sums.{sum-first}
 use Rattle.machine.proofs.TableLaws.{at-cleared, at-same, size-cleared, size-put}
 use Rattle.machine.proofs.Written.{direct-good, free-good, Good}
 

@@ -12,14 +12,13 @@ use lib.ListN.{drop, getD, length, replicate, take}
 use lib.Seq.{ext-getD}
 use Rattle.layout.specs.Token.{named}
 use Rattle.layout.specs.declared.entry.Entry.{Entry}
-use Rattle.machine.specs.Demand3.{above, Accepted, Alike, Closed, Demand3, FirstRevoke, In, IsReset, issuedIn, itself, LockedFor, NoneCarries, NoReset, Owns, resetCall, Revokes, Secret, Under, Unrevoked}
+use Rattle.machine.specs.Demand3.{above, Accepted, Alike, Closed, Demand3, In, IsReset, issuedIn, itself, LockedFor, NoneCarries, NoReset, Owns, resetCall, Revokes, Under, Unrevoked}
 use Rattle.machine.specs.Line.{lineOf, ownerOf, parentNumber}
 use Rattle.machine.specs.Operations.{Decision, Effect, fresh, grantRevoke, Name, nameOf, numberOf, revokedOf, revokeNonce, store}
-use Rattle.machine.specs.Parts.{at, put, spent, State}
-use Rattle.machine.specs.Requests.{access, Call, clone, create, derive, executeOnly, lock, merge, release, Request, reset, revoke, taskOf, unlock, Way}
-use Rattle.machine.specs.Steps.{answer, Answer, answers, bufferAfter, decide, decision, Machine, memoryAfter, run, step}
-use Rattle.machine.specs.Stops.{checks}
-use Rattle.machine.proofs.Basics.{Link, link, Live, neqb→ne, owner-direct, owner-unique, parent, pass-up, Passed, walk-owns}
+use Rattle.machine.specs.Parts.{at, put, spent}
+use Rattle.machine.specs.Requests.{access, Call, clone, create, derive, executeOnly, lock, merge, release, Request, reset, revoke, taskOf, unlock}
+use Rattle.machine.specs.Steps.{answer, answers, bufferAfter, decide, decision, Machine, memoryAfter, run, step}
+use Rattle.machine.proofs.Basics.{Link, link, Live, neqb→ne, owner-direct, owner-unique, parent, pass-up, walk-owns}
 use Rattle.machine.proofs.Deeds.{revoked-good}
 use Rattle.machine.proofs.Effects.{buffer-agree, memory-agree, memory-long, memory-other, zeros}
 use Rattle.machine.proofs.Fates.{core, Deed, linked-same, Shut, shut-stays, Touches}

@@ -7,11 +7,11 @@ use mathlib.Core.Bool.{Bool, true, false, not, _&&_, _||_}
 use Prim.Native.Nat.{ℕ, zero, suc, _+_, _≤_, _<_, _^_}
 use native.Mathlib.Nat.{mod-lt}
 use native.Mathlib.Omega.{arith}
-use lib.Dec.{eqb, ltb}
+use lib.Dec.{eqb}
 use lib.ListN.{drop}
 use lib.Pow.{pow-pos}
 use borrow.Author.Tests.{eqb-false, le-ltb, ltb-false, ne-eqb}
-use Rattle.layout.specs.Entry.{bit, direct, directFields, directWidths, free, indirect, indirectFields, indirectWidths, isDirect, isFree, isIndirect, Storable}
+use Rattle.layout.specs.Entry.{bit, direct, directFields, directWidths, free, indirect, isDirect, isFree, isIndirect, Storable}
 use Rattle.layout.specs.Fields.{Fit}
 use Rattle.layout.specs.Form.{endPastMemory, faultsOf, holderWithoutLock, illFormed, lengthZero, lockedWithoutHolder, orSome}
 use Rattle.layout.specs.Tag.{tagOf}

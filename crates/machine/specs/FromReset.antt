@@ -12,7 +12,7 @@ use Rattle.layout.specs.Form.{illFormed}
 use Rattle.layout.specs.declared.entry.Entry.{Entry}
 use Rattle.machine.specs.Demand3.{Accepted, In, Linked, NoReset, resetCall}
 use Rattle.machine.specs.Line.{parentNumber}
-use Rattle.machine.specs.Parts.{at, size, State}
+use Rattle.machine.specs.Parts.{at, size}
 use Rattle.machine.specs.Requests.{Call}
 use Rattle.machine.specs.Steps.{Machine, run}
 
