@@ -28,7 +28,7 @@ use Rattle.machine.proofs.Basics.{by-both, by-cond, Live, neqb→ne, ow
 use Rattle.machine.proofs.Fates.{core, Deed, Fate, gone, Inv, issued, kept, Shut, Source, Touches}
 use Rattle.machine.proofs.Sums.{owned-direct, owned-other, sum-put2, sum-same}
 use Rattle.machine.proofs.TableLaws.{at-other, in-table, put-out, size-put}
-use Rattle.machine.proofs.Written.{count-fit, counted, direct-fit, free-good, Good, issue-direct, issue-indirect, parent-named, range, recount-good, relock-good}
+use Rattle.machine.proofs.Written.{direct-fit, fitting, free-good, Good, issue-direct, issue-indirect, parent-named, range, recount-good, relock-good}
 
 -- nobody's bytes go to another owner
 abbrev stay : ℕ → ℕ → ℕ
@@ -362,7 +362,7 @@ module _ (m : ℕ) (s : State) (t : List ℕ) (inv : Inv m s t) where
   climb-fades (suc f) u n gs =
       by-cond (Fading u) (leb 2 (at u n .count))
       (λ i. put-fades u gs n (recount (at u n) (at u n .count - 1))
-      (recount-good m (at u n) (at u n .count - 1) (gs n) (counted m (at u n) (gs n) (omega (arith, leb→le 2 (at u n .count) i))) (omega (arith, count-fit m (at u n) (gs n))))
+      (recount-good m (at u n) (at u n .count - 1) (gs n) (fitting m (at u n) (gs n) .counted (omega (arith, leb→le 2 (at u n .count) i))) (omega (arith, fitting m (at u n) (gs n))))
       (stays refl refl refl))
       (λ i. by-cond (Fading u) (eqb (at u n .count) 0) (λ z. record { each = λ k. same (at u k); good = gs; long = refl })
       (λ z. by-cond (Fading u) (eqb (at u n .kind) 1)

@@ -45,33 +45,19 @@ NotReset q = IsReset (q .request) → ⊥
 pub deed-of : (σ : Machine) (q : Call) → Well σ → NotReset q → Deed (length (σ .memory)) (σ .state) (σ .table) (q .request) (decision σ q)
 deed-of σ q inv nr = deed (length (σ .memory)) (σ .state) (σ .table) (q .request) (q .buffer) inv nr
 
--- every refusal has a number that is not 0
-all-numbered : (m : ℕ) (s : State) (t : List ℕ) (q : Request) (b : List ℕ) → numbered (checks m s t q b) ≡ true
-all-numbered m s t (reset k0 k1 ν) b = refl
-all-numbered m s t (access w k u) b = refl
-all-numbered m s t (create k u l x p c) b = refl
-all-numbered m s t (merge j k u c) b = refl
-all-numbered m s t (derive k o l p c) b = refl
-all-numbered m s t (executeOnly k c) b = refl
-all-numbered m s t (clone k) b = refl
-all-numbered m s t (release k) b = refl
-all-numbered m s t (lock k u) b = refl
-all-numbered m s t (unlock k u) b = refl
-all-numbered m s t (revoke k c) b = refl
-
--- and a granted request answers 0
-grant-grants : (m : ℕ) (s : State) (t : List ℕ) (q : Request) (b : List ℕ) → grant m s t q b .reply .refusal ≡ 0
-grant-grants m s t (reset k0 k1 ν) b = refl
-grant-grants m s t (access w k u) b = refl
-grant-grants m s t (create k u l x p c) b = by-cond (λ (d : Decision). d .reply .refusal ≡ 0) (eqb l (at t _ .length)) (λ i. refl) (λ i. refl)
-grant-grants m s t (merge j k u c) b = refl
-grant-grants m s t (derive k o l p c) b = refl
-grant-grants m s t (executeOnly k c) b = refl
-grant-grants m s t (clone k) b = refl
-grant-grants m s t (release k) b = refl
-grant-grants m s t (lock k u) b = refl
-grant-grants m s t (unlock k u) b = refl
-grant-grants m s t (revoke k c) b = refl
+-- every refusal has a number that is not 0, and what is granted answers 0
+numbers : (m : ℕ) (s : State) (t : List ℕ) (q : Request) (b : List ℕ) → (numbered (checks m s t q b) ≡ true) × (grant m s t q b .reply .refusal ≡ 0)
+numbers m s t (reset k0 k1 ν) b = (refl, refl)
+numbers m s t (access w k u) b = (refl, refl)
+numbers m s t (create k u l x p c) b = (refl, by-cond (λ (d : Decision). d .reply .refusal ≡ 0) (eqb l (at t _ .length)) (λ i. refl) (λ i. refl))
+numbers m s t (merge j k u c) b = (refl, refl)
+numbers m s t (derive k o l p c) b = (refl, refl)
+numbers m s t (executeOnly k c) b = (refl, refl)
+numbers m s t (clone k) b = (refl, refl)
+numbers m s t (release k) b = (refl, refl)
+numbers m s t (lock k u) b = (refl, refl)
+numbers m s t (unlock k u) b = (refl, refl)
+numbers m s t (revoke k c) b = (refl, refl)
 
 module _ (σ : Machine) (q : Call) where
   abbrev cs : List Check
@@ -89,9 +75,12 @@ module _ (σ : Machine) (q : Call) where
   unfolding answer decide
   turned = go (verdict cs) refl
     where
+      all : (numbered cs ≡ true) × (given .reply .refusal ≡ 0)
+      all = numbers (length (σ .memory)) (σ .state) (σ .table) (q .request) (q .buffer)
+
       go : (v : Verdict) → verdict cs ≡ v → Turned
-      go pass e = taken (rw e (grant-grants (length (σ .memory)) (σ .state) (σ .table) (q .request) (q .buffer))) (passed cs e) (rw e refl)
-      go (stop r p) e = away (rw e refl) (rw e refl) (rw e refl) (λ a. stopped cs r p (all-numbered (length (σ .memory)) (σ .state) (σ .table) (q .request) (q .buffer)) e (rw e at a))
+      go pass e = taken (rw e (all .1)) (passed cs e) (rw e refl)
+      go (stop r p) e = away (rw e refl) (rw e refl) (rw e refl) (λ a. stopped cs r p (all .0) e (rw e at a))
 
   pub accepted : Accepted σ q → Passed cs × (decision σ q ≡ given)
   accepted a = go turned

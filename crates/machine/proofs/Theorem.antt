@@ -14,11 +14,12 @@ use Rattle.layout.specs.Token.{named}
 use Rattle.layout.specs.declared.entry.Entry.{Entry}
 use Rattle.machine.specs.Demand3.{above, Accepted, Alike, Closed, Demand3, In, IsReset, issuedIn, itself, LockedFor, NoneCarries, NoReset, Owns, resetCall, Revokes, Under, Unrevoked}
 use Rattle.machine.specs.Line.{lineOf, ownerOf, parentNumber}
-use Rattle.machine.specs.Operations.{Decision, Effect, fresh, grantRevoke, Name, nameOf, numberOf, revokedOf, revokeNonce, store}
+use Rattle.machine.specs.Operations.{Decision, Effect, fresh, grant, grantRevoke, Name, nameOf, numberOf, revokedOf, revokeNonce, store}
 use Rattle.machine.specs.Parts.{at, put, spent}
 use Rattle.machine.specs.Requests.{access, Call, clone, create, derive, executeOnly, lock, merge, release, Request, reset, revoke, taskOf, unlock}
 use Rattle.machine.specs.Steps.{answer, answers, bufferAfter, decide, decision, Machine, memoryAfter, run, step}
-use Rattle.machine.proofs.Basics.{Link, link, Live, neqb→ne, owner-direct, owner-unique, parent, pass-up, walk-owns}
+use Rattle.machine.specs.Stops.{checks}
+use Rattle.machine.proofs.Basics.{Link, link, Live, neqb→ne, owner-direct, owner-unique, parent, pass-up, Passed, walk-owns}
 use Rattle.machine.proofs.Deeds.{revoked-good}
 use Rattle.machine.proofs.Effects.{buffer-agree, memory-agree, memory-long, memory-other, zeros}
 use Rattle.machine.proofs.Fates.{core, Deed, linked-same, Shut, shut-stays, Touches}
@@ -84,46 +85,59 @@ lock-run σ s t (q ∷ qs) inv nr l n u =
 
 -- ---- revocation
 
-not-both : (q : Request) (s : ℕ) → Revokes q s → IsReset q → ⊥
-not-both (reset k0 k1 ν) s v i = v
-not-both (access w k u) s v i = v
-not-both (create k u l x p c) s v i = v
-not-both (merge j k u c) s v i = v
-not-both (derive k o l p c) s v i = v
-not-both (executeOnly k c) s v i = v
-not-both (clone k) s v i = v
-not-both (release k) s v i = v
-not-both (lock k u) s v i = v
-not-both (unlock k u) s v i = v
-not-both (revoke k c) s v i = i
+-- the request is a revoke of s, or it is not
+data Revoke (q : Request) (s : ℕ) : Type 0 where
+  is : (k c : ℕ) → q ≡ revoke k c → numberOf k ≡ s → Revoke q s
+  isnt : (Revokes q s → ⊥) → Revoke q s
+
+as-revoke : (q : Request) (s : ℕ) → Revoke q s
+as-revoke (reset k0 k1 ν) s = isnt (λ h. h)
+as-revoke (access w k u) s = isnt (λ h. h)
+as-revoke (create k u l x p c) s = isnt (λ h. h)
+as-revoke (merge j k u c) s = isnt (λ h. h)
+as-revoke (derive k o l p c) s = isnt (λ h. h)
+as-revoke (executeOnly k c) s = isnt (λ h. h)
+as-revoke (clone k) s = isnt (λ h. h)
+as-revoke (release k) s = isnt (λ h. h)
+as-revoke (lock k u) s = isnt (λ h. h)
+as-revoke (unlock k u) s = isnt (λ h. h)
+as-revoke (revoke k c) s = go (ℕ-discrete (numberOf k) s)
+  where
+    go : Dec (numberOf k ≡ s) → Revoke (revoke k c) s
+    go (yes v) = is k c refl v
+    go (no v) = isnt v
+
+no-reset : (q : Request) (s : ℕ) → Revokes q s → IsReset q → ⊥
+no-reset q s v i = go (as-revoke q s)
+  where
+    go : Revoke q s → ⊥
+    go (is k c e n) = subst IsReset e i
+    go (isnt n) = n v
 
 -- a revoke of s that is granted, in some encoding
 record Wipe (σ : Machine) (s : ℕ) (r : Call) : Type 0 where
   encoding : ℕ
-  is : decision σ r ≡ grantRevoke (σ .state) (σ .table) s encoding
+  done : decision σ r ≡ grantRevoke (σ .state) (σ .table) s encoding
   direct : at (σ .table) s .kind ≡ 1
   left : revokeNonce (σ .state) (σ .table) s < spent
 
-wipe : (σ : Machine) (s : ℕ) (q : Request) (b : List ℕ) → Revokes q s → Accepted σ (record { request = q; buffer = b }) → Wipe σ s (record { request = q; buffer = b })
-wipe σ s (reset k0 k1 ν) b v a = absurd v
-wipe σ s (access w k u) b v a = absurd v
-wipe σ s (create k u l x p c) b v a = absurd v
-wipe σ s (merge j k u c) b v a = absurd v
-wipe σ s (derive k o l p c) b v a = absurd v
-wipe σ s (executeOnly k c) b v a = absurd v
-wipe σ s (clone k) b v a = absurd v
-wipe σ s (release k) b v a = absurd v
-wipe σ s (lock k u) b v a = absurd v
-wipe σ s (unlock k u) b v a = absurd v
-wipe σ s (revoke k c) b v a =
-    let both = accepted σ (record { request = revoke k c; buffer = b }) a in
-    let h = both .0 in
-    record {
-      encoding = c;
-      is = both .1 ∙ ap (λ (i : ℕ). grantRevoke (σ .state) (σ .table) i c) v;
-      direct = subst (λ (i : ℕ). at (σ .table) i .kind ≡ 1) v (eqb→eq (at (σ .table) (numberOf k) .kind) 1 (search));
-      left = subst (λ (i : ℕ). revokeNonce (σ .state) (σ .table) i < spent) v (ltb→lt (revokeNonce (σ .state) (σ .table) (numberOf k)) spent (search));
-    }
+wipe : (σ : Machine) (s : ℕ) (r : Call) → Revokes (r .request) s → Accepted σ r → Wipe σ s r
+wipe σ s r v a = go (as-revoke (r .request) s)
+  where
+    m : ℕ
+    m = length (σ .memory)
+
+    go : Revoke (r .request) s → Wipe σ s r
+    go (isnt n) = absurd (n v)
+    go (is k c e n) =
+        let both = accepted σ r a in
+        let h : Passed (checks m (σ .state) (σ .table) (revoke k c) (r .buffer)) = subst (λ (q : Request). Passed (checks m (σ .state) (σ .table) q (r .buffer))) e (both .0) in
+        record {
+          encoding = c;
+          done = both .1 ∙ ap (λ (q : Request). grant m (σ .state) (σ .table) q (r .buffer)) e ∙ ap (λ (i : ℕ). grantRevoke (σ .state) (σ .table) i c) n;
+          direct = subst (λ (i : ℕ). at (σ .table) i .kind ≡ 1) n (eqb→eq (at (σ .table) (numberOf k) .kind) 1 (search));
+          left = subst (λ (i : ℕ). revokeNonce (σ .state) (σ .table) i < spent) n (ltb→lt (revokeNonce (σ .state) (σ .table) (numberOf k)) spent (search));
+        }
 
 -- the new entry has a new nonce
 revoke-nonce : (σ : Machine) (s : ℕ) (r : Call) → Well σ → Wipe σ s r → σ .state .next ≤ at (step σ r .table) s .nonce
@@ -133,7 +147,7 @@ revoke-nonce σ s r inv w =
     let up : σ .state .next ≤ revokeNonce (σ .state) (σ .table) s = pass-up (spent - σ .state .next) (σ .state) s (fresh (at (σ .table) s)) (at (σ .table) s .tag) (σ .state .next) in
     let good : Good (length (σ .memory)) e = revoked-good (length (σ .memory)) (σ .state) (σ .table) inv s (w .direct) (w .left) in
     let new : at (put (σ .table) s e) s ≡ e = at-same (σ .table) s e (good .storable) (in-table (σ .table) s (omega (arith, w .direct))) in
-    rw (w .is, new) up
+    rw (w .done, new) up
 
 -- a walk whose first nonce is old was the same walk then
 owns-old : (σ : Machine) (qs : List Call) → Well σ → NoReset qs → {n k : ℕ} → Owns (run σ qs .table) n k → at (run σ qs .table) n .nonce < σ .state .next
@@ -171,7 +185,7 @@ module _ (ρ : Machine) (inv₀ : Well ρ) (after qs : List Call) (nr : NoReset 
   none-ab = none-split a b (rw ab nr)
 
   none-r : NotReset r
-  none-r i = not-both (r .request) s v i
+  none-r i = no-reset (r .request) s v i
 
   none-on : NoReset (b ++ (r ∷ zs))
   none-on = none-append b (r ∷ zs) (none-ab .1) (none-r, nz)
@@ -238,7 +252,7 @@ module _ (ρ : Machine) (inv₀ : Well ρ) (after qs : List Call) (nr : NoReset 
       let his-B : In (at (B .table) i) (u .byte) = subst (λ (x : Entry). In x (u .byte)) (sym toA ∙ toB) his-A in
       let ours-B : In (at (B .table) s) (u .byte) = subst (λ (x : Entry). In x (u .byte)) (sym (B-held .same)) (u .ours) in
       let f : i ≡ s = B-inv .tiled i s (u .byte) (record { direct = subst (λ (x : Entry). x .kind ≡ 1) toB one; inside = his-B }) (record { direct = B-held .lock .direct; inside = ours-B }) in
-      let z : B .state .next ≤ at (C .table) i .nonce = rw f (revoke-nonce B s r B-inv (wipe B s (r .request) (r .buffer) v acc)) in
+      let z : B .state .next ≤ at (C .table) i .nonce = rw f (revoke-nonce B s r B-inv (wipe B s r v acc)) in
       omega (arith, z, A-up-B, was .1, ap (λ (x : Entry). x .nonce) toC)
 
   still-open : (i : ℕ) → i ≡ k .number → at (D .table) i .kind ≢ 0 → at (D .table) i .tag ≡ k .tag → Live (lineOf (length (D .memory)) (D .table) i) → ⊥
@@ -275,19 +289,6 @@ dec-in e x = go (decLe (e .base) x) (decLt x (e .base + e .length))
     go (yes i) (yes j) = yes (i, j)
     go (yes i) (no j) = no (λ h. j (h .1))
     go (no i) j = no (λ h. i (h .0))
-
-dec-revokes : (q : Request) (s : ℕ) → Dec (Revokes q s)
-dec-revokes (reset k0 k1 ν) s = no (λ h. h)
-dec-revokes (access w k u) s = no (λ h. h)
-dec-revokes (create k u l x p c) s = no (λ h. h)
-dec-revokes (merge j k u c) s = no (λ h. h)
-dec-revokes (derive k o l p c) s = no (λ h. h)
-dec-revokes (executeOnly k c) s = no (λ h. h)
-dec-revokes (clone k) s = no (λ h. h)
-dec-revokes (release k) s = no (λ h. h)
-dec-revokes (lock k u) s = no (λ h. h)
-dec-revokes (unlock k u) s = no (λ h. h)
-dec-revokes (revoke k c) s = ℕ-discrete (numberOf k) s
 
 module _ (e : Entry) (s t : ℕ) (τ₁ τ₂ : Machine) (tw : Twin e s t τ₁ τ₂) (q : Call) where
   same : decision τ₁ q ≡ decision τ₂ q
@@ -338,10 +339,10 @@ module _ (e : Entry) (s t : ℕ) (τ₁ τ₂ : Machine) (tw : Twin e s t τ₁ 
   -- the accepted revoke of the segment
   module _ (v : Revokes (q .request) s) (a : Accepted τ₁ q) where
     wp : Wipe τ₁ s q
-    wp = wipe τ₁ s (q .request) (q .buffer) v a
+    wp = wipe τ₁ s q v a
 
     effect-is : decision τ₁ q .effect ≡ store (e .base) (replicate (e .length) 0)
-    effect-is = ap (λ (d : Decision). d .effect) (wp .is) ∙ ap (λ (x : Entry). store (x .base) (replicate (x .length) 0)) (tw .same)
+    effect-is = ap (λ (d : Decision). d .effect) (wp .done) ∙ ap (λ (x : Entry). store (x .base) (replicate (x .length) 0)) (tw .same)
 
     zero-inside : (m : List ℕ) (x : ℕ) → In e x → getD (memoryAfter (decision τ₁ q .effect) m) x 0 ≡ 0
     zero-inside m x i = rw effect-is (zeros (e .length) m (e .base) x (i .0) (i .1))
@@ -400,7 +401,7 @@ record Same (e : Entry) (τ₁ τ₂ : Machine) (qs : List Call) : Type 0 where
 same-run : (e : Entry) (s t : ℕ) (τ₁ τ₂ : Machine) (qs : List Call) → Twin e s t τ₁ τ₂ → NoReset qs → NoneCarries t qs → Same e τ₁ τ₂ qs
 same-run e s t τ₁ τ₂ [] tw nr n = record { said = refl; left = tw .alike }
 same-run e s t τ₁ τ₂ (q ∷ qs) tw nr n =
-    go (λ r. same-run e s t (step τ₁ q) (step τ₂ q) qs (calm e s t τ₁ τ₂ tw q (nr .0) (n .0) r) (nr .1) (n .1)) (dec-revokes (q .request) s) (turned τ₁ q)
+    go (λ r. same-run e s t (step τ₁ q) (step τ₂ q) qs (calm e s t τ₁ τ₂ tw q (nr .0) (n .0) r) (nr .1) (n .1)) (as-revoke (q .request) s) (turned τ₁ q)
   where
     next : answer τ₁ q ≡ answer τ₂ q → Same e (step τ₁ q) (step τ₂ q) qs → Same e τ₁ τ₂ (q ∷ qs)
     next a k = record { said = ap₂ (λ x y. x ∷ y) a (k .said); left = k .left }
@@ -408,12 +409,13 @@ same-run e s t τ₁ τ₂ (q ∷ qs) tw nr n =
     other : (Spares τ₁ q s → Same e (step τ₁ q) (step τ₂ q) qs) → Spares τ₁ q s → Same e τ₁ τ₂ (q ∷ qs)
     other f r = next (calm-answer e s t τ₁ τ₂ tw q (nr .0) (n .0) r) (f r)
 
-    go : (Spares τ₁ q s → Same e (step τ₁ q) (step τ₂ q) qs) → Dec (Revokes (q .request) s) → Turned τ₁ q → Same e τ₁ τ₂ (q ∷ qs)
-    go f (no v) k = other f (λ w a. v w)
-    go f (yes v) (taken a p d) =
+    go : (Spares τ₁ q s → Same e (step τ₁ q) (step τ₂ q) qs) → Revoke (q .request) s → Turned τ₁ q → Same e τ₁ τ₂ (q ∷ qs)
+    go f (isnt v) k = other f (λ w a. v w)
+    go f (is k c i n) (taken a p d) =
+        let v : Revokes (q .request) s = rw i n in
         next (wipe-answer e s t τ₁ τ₂ tw q v a)
         (subst (λ (σ : Machine). Same e (step τ₁ q) σ qs) (wipe-equal e s t τ₁ τ₂ tw q v a) (record { said = refl; left = alike-refl e (run (step τ₁ q) qs) }))
-    go f (yes v) (away i j l na) = other f (λ w a. na a)
+    go f (is k c x n) (away i j l na) = other f (λ w a. na a)
 
 -- what is accepted in one copy is accepted in the other
 accepted-same : (e : Entry) (τ₁ τ₂ : Machine) (q : Call) → Alike e τ₁ τ₂ → Accepted τ₁ q → Accepted τ₂ q

@@ -66,30 +66,19 @@ direct-fit m e g k = go (g .storable)
     go (isDirect i p z f) = f
     go (isIndirect i h u f) = absurd (omega arith)
 
-pub tag-fit : (m : ℕ) (e : Entry) → Good m e → e .tag < 65536
-tag-fit m e g = go (g .storable)
-  where
-    go : Storable e → e .tag < 65536
-    go (isFree i) = omega (arith, ap (λ (x : Entry). x .tag) i)
-    go (isDirect i p z f) = omega arith
-    go (isIndirect i h u f) = omega arith
+-- so do tag and count of any, and a free one has count 0
+pub record Fitting (e : Entry) : Type 0 where
+  pub tag : e .tag < 65536
+  pub count : e .count < 65536
+  pub counted : e .count ≢ 0 → e .kind ≢ 0
 
-pub count-fit : (m : ℕ) (e : Entry) → Good m e → e .count < 65536
-count-fit m e g = go (g .storable)
+pub fitting : (m : ℕ) (e : Entry) → Good m e → Fitting e
+fitting m e g = go (g .storable)
   where
-    go : Storable e → e .count < 65536
-    go (isFree i) = omega (arith, ap (λ (x : Entry). x .count) i)
-    go (isDirect i p z f) = omega arith
-    go (isIndirect i h u f) = omega arith
-
--- a free entry has count 0
-pub counted : (m : ℕ) (e : Entry) → Good m e → e .count ≢ 0 → e .kind ≢ 0
-counted m e g h = go (g .storable)
-  where
-    go : Storable e → e .kind ≢ 0
-    go (isFree i) = absurd (h (ap (λ (x : Entry). x .count) i))
-    go (isDirect i p z f) = omega arith
-    go (isIndirect i q u f) = omega arith
+    go : Storable e → Fitting e
+    go (isFree i) = rw i (record { tag = omega arith; count = omega arith; counted = λ h. absurd (h refl) })
+    go (isDirect i p z f) = record { tag = omega arith; count = omega arith; counted = λ h. omega arith }
+    go (isIndirect i q u f) = record { tag = omega arith; count = omega arith; counted = λ h. omega arith }
 
 -- ---- what is written
 
@@ -122,7 +111,7 @@ abbrev names : ℕ → Entry → Named
 names n e = record { tag = e .tag; number = n; offset = 0 }
 
 names-fit : (m : ℕ) (n : ℕ) (e : Entry) → Good m e → n < 1024 → NamedFits 1 (names n e)
-names-fit m n e g h = omega (arith, tag-fit m e g)
+names-fit m n e g h = omega (arith, fitting m e g)
 
 -- the number that a child's parent token names
 pub parent-named : (m : ℕ) (n : ℕ) (e : Entry) (b l p g ν : ℕ) → Good m e → n < 1024 → parentNumber (indirect b l (tokenOf 1 n e) p g ν) ≡ n
