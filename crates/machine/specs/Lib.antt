@@ -1,4 +1,5 @@
 pub mod Demand3
+pub mod FromReset
 pub mod Issuing
 pub mod Lent
 pub mod Line

@@ -1,0 +1,503 @@
+-- What each granted request but a reset does, as a Deed.
+-- Assumes nothing.
+use mathlib.Core.Path.{_≡_, refl, sym, ap, subst, _∙_}
+use mathlib.Core.Logic.{_≢_}
+use mathlib.Core.List.{List, [], _∷_, List·Memᴰ·head, List·Memᴰ·tail}
+use mathlib.Core.Bool.{Bool, true, false, not, _&&_, cond}
+use Prim.Native.Nat.{ℕ, zero, suc, _+_, _-_, _≤_, _<_, _^_}
+use native.Mathlib.Omega.{arith}
+use native.Mathlib.Decide.{decLt, ℕ-discrete}
+use lib.Bits.{and-le-l, bitAnd}
+use lib.Dec.{T, leb, ltb, eqb, leb→le, ltb→lt, eqb→eq, nltb→le}
+use lib.ListN.{length, replicate, length-replicate}
+use borrow.Author.Tests.{ne-eqb}
+use Rattle.layout.specs.Entry.{direct, directFields, directWidths, free}
+use Rattle.layout.specs.Fields.{Fit}
+use Rattle.layout.specs.Permissions.{X}
+use Rattle.layout.specs.Token.{named}
+use Rattle.layout.specs.declared.entry.Entry.{Entry}
+use Rattle.machine.specs.Demand3.{above, In, IsReset, itself, Owns, Revokes}
+use Rattle.machine.specs.FromReset.{Has, Inside, owned}
+use Rattle.machine.specs.Issuing.{newNumber}
+use Rattle.machine.specs.Line.{dead, ill, isLocked, Line, linked, lineOf, lockedFrom, owner, ownerOf, parentNumber}
+use Rattle.machine.specs.Operations.{childOf, climb, Effect, fresh, grant, grantCreate, grantDerive, granted, grantLock, grantMerge, grantRevoke, mergedOf, Name, namedEntry, nameOf, nothing, numberOf, partOf, recount, relock, Reply, restOf, revokedOf, revokeNonce, store, tokenOf, transfer}
+use Rattle.machine.specs.Parts.{at, moved, put, size, spent, State}
+use Rattle.machine.specs.Requests.{access, clone, create, derive, executeOnly, fetching, lock, merge, reading, release, Request, reset, revoke, taskOf, unlock, Way, writing}
+use Rattle.machine.specs.Stops.{checks}
+use Rattle.machine.proofs.Basics.{by-both, by-cond, Live, neqb→ne, owner-direct, parent, pass-up, Passed, put-all, put2-all, seek-free, T-false, walk-owns}
+use Rattle.machine.proofs.Fates.{core, Deed, Fate, gone, Inv, issued, kept, Shut, Source, Touches}
+use Rattle.machine.proofs.Sums.{owned-direct, owned-other, sum-put2, sum-same}
+use Rattle.machine.proofs.TableLaws.{at-other, in-table, put-out, size-put}
+use Rattle.machine.proofs.Written.{direct-fit, fitting, free-good, Good, issue-direct, issue-indirect, parent-named, range, recount-good, relock-good}
+
+-- nobody's bytes go to another owner
+abbrev stay : ℕ → ℕ → ℕ
+stay k x = k
+
+-- two entries of one type over one segment
+record Over (e′ e : Entry) : Type 0 where
+  kind : e′ .kind ≡ e .kind
+  base : e′ .base ≡ e .base
+  length : e′ .length ≡ e .length
+
+-- e is direct and has byte x
+abbrev Holds : Entry → ℕ → Type 0
+Holds e x = (e .kind ≡ 1) × In e x
+
+-- a byte of an entry is a byte of its owner
+owner-range : (m : ℕ) (s : State) (t : List ℕ) → Inv m s t → (x : ℕ) {n k : ℕ} → Owns t n k → In (at t n) x → In (at t k) x
+owner-range m s t inv x (itself k) h = h
+owner-range m s t inv x (above {n = n} l o) h =
+    let i : Inside (at t n) (parent t n) = inv .inside n l in
+    owner-range m s t inv x o (omega arith)
+
+-- the owner of a line that is open to u is not locked for another task than u
+owner-open : (t : List ℕ) (l : Line) (u : ℕ) → Live l → T (not (lockedFrom t u l)) → Shut u (at t (ownerOf l)) → ⊥
+owner-open t (owner k) u v o h = rw (h .locked, ne-eqb (at t k .holder) u (h .other)) at o
+owner-open t (dead k) u v o h = absurd (v .1)
+owner-open t (ill k) u v o h = absurd (v .0)
+
+touched : (w : Way) (a : ℕ) (b : List ℕ) (x : ℕ) → Touches (transfer w a b) x → (a ≤ x) × (x < a + length b)
+touched reading a b x h = h
+touched writing a b x h = h
+touched fetching a b x h = h
+
+module _ (m : ℕ) (s : State) (t : List ℕ) (inv : Inv m s t) where
+  unmoved : (q : Request) (ν : ℕ) (ks : List Name) (n : ℕ) → Fate s t q ν ks stay n (at t n)
+  unmoved q ν ks n = kept refl (λ x h. refl) (λ h. (refl, refl))
+
+  owns : (n : ℕ) → T (not (eqb (at t n .kind) 0)) → Live (lineOf m t n) → Owns t n (ownerOf (lineOf m t n))
+  owns n k v = walk-owns (suc (at t n .nonce)) m t n (neqb→ne (at t n .kind) 0 k) v
+
+  -- no entry is written
+  pub deed-none : (q : Request) (r : Reply) (f : Effect)
+      → ((n x : ℕ) → Shut (taskOf q) (at t n) → (Revokes q n → ⊥) → Touches f x → In (at t n) x → ⊥)
+      → Deed m s t q (record { state = s; table = t; reply = r; issued = []; effect = f })
+  deed-none q r f sp =
+      record { up = omega arith; moves = stay; fate = unmoved q (s .next) []; carried = λ n x h. h; spared = sp; good = inv .good; long = refl; sum = refl }
+
+  deed-access : (w : Way) (k u : ℕ) (b : List ℕ) → Passed (checks m s t (access w k u) b) → Deed m s t (access w k u) (grant m s t (access w k u) b)
+  deed-access w k u b h =
+      deed-none (access w k u) (granted 0 0 0) (transfer w (at t n .base + named k .offset) b)
+      (λ i x sh nr tc ins.
+      let live : Live l = (search, search) in
+      let o : Owns t n (ownerOf l) = owns n (search) live in
+      let tc′ : (at t n .base + named k .offset ≤ x) × (x < at t n .base + named k .offset + length b) = touched w (at t n .base + named k .offset) b x tc in
+      let here : In (at t n) x = omega (arith, leb→le (named k .offset + length b) (at t n .length) (search)) in
+      let e : ownerOf l ≡ i = inv .tiled (ownerOf l) i x (record { direct = owner-direct o; inside = owner-range m s t inv x o here }) (record { direct = sh .direct; inside = ins }) in
+      owner-open t l u live (search) (rw e sh))
+    where
+      n : ℕ
+      n = numberOf k
+
+      l : Line
+      l = lineOf m t n
+
+  has : {n x : ℕ} → Has t n x → Holds (at t n) x
+  has h = (h .direct, h .inside)
+
+  -- ---- one entry is written, over the segment that it had
+
+  deed-put : (q : Request) (n : ℕ) (e : Entry) (s′ : State) (r : Reply) (ks : List Name) (f : Effect) → s .next ≤ s′ .next → Good m e → at t n .kind ≢ 0 → Over e (at t n)
+      → Fate s t q (s′ .next) ks stay n e
+      → ((i x : ℕ) → Shut (taskOf q) (at t i) → (Revokes q i → ⊥) → Touches f x → In (at t i) x → ⊥)
+      → Deed m s t q (record { state = s′; table = put t n e; reply = r; issued = ks; effect = f })
+  deed-put q n e s′ r ks f up good full o fate sp =
+      record {
+        up = up;
+        moves = stay;
+        fate = each (λ i y. Fate s t q (s′ .next) ks stay i y) fate (λ i j. unmoved q (s′ .next) ks i);
+        carried = λ i x h.
+            let c : Holds (at (put t n e) i) x = each (λ k y. Has t k x → Holds y x) (λ k. (o .kind ∙ k .direct, omega arith)) (λ k j. has) i h in
+            record { direct = c .0; inside = c .1 };
+        spared = sp;
+        good = each (λ i y. Good m y) good (λ i j. inv .good i);
+        long = size-put t n e;
+        sum = sum-same t (put t n e) (size-put t n e) (each (λ i y. owned y ≡ owned (at t i)) (rw (o .kind, o .length)) (λ i j. refl));
+      }
+    where
+      each : (P : ℕ → Entry → Type 0) → P n e → ((i : ℕ) → i ≢ n → P i (at t i)) → (i : ℕ) → P i (at (put t n e) i)
+      each P = put-all P t n e (good .storable) (in-table t n full)
+
+  -- ---- two entries are written, first p and then n
+
+  -- a byte that owner k has now is in a under p, or in b under n
+  data Lands (p n : ℕ) (a b : Entry) (k x : ℕ) : Type 0 where
+    first : p ≡ k → Holds a x → Lands p n a b k x
+    second : n ≡ k → Holds b x → Lands p n a b k x
+
+  deed-put2 : (q : Request) (p n : ℕ) (a b : Entry) (s′ : State) (r : Reply) (ks : List Name) (g : ℕ → ℕ → ℕ) → s .next ≤ s′ .next → Good m a → Good m b → p < size t → n < size t → p ≢ n
+      → owned a + owned b ≡ owned (at t p) + owned (at t n)
+      → Fate s t q (s′ .next) ks g n b → Fate s t q (s′ .next) ks g p a → ((i : ℕ) → i ≢ n → i ≢ p → (x : ℕ) → i ≡ g i x)
+      → ((x : ℕ) → Has t n x → Lands p n a b (g n x) x) → ((x : ℕ) → Has t p x → Lands p n a b (g p x) x)
+      → Deed m s t q (record { state = s′; table = put (put t p a) n b; reply = r; issued = ks; effect = nothing })
+  deed-put2 q p n a b s′ r ks g up ga gb hp hn d sum nb pa others cn cp =
+      record {
+        up = up;
+        moves = g;
+        fate = each (λ i y. Fate s t q (s′ .next) ks g i y) nb pa (λ i j k. kept refl (λ x h. others i j k x) (λ h. (refl, refl)));
+        carried = λ i x h. moved-to i x h (ℕ-discrete i n) (ℕ-discrete i p);
+        spared = λ i x sh nr tc ins. tc;
+        good = each (λ i y. Good m y) gb ga (λ i j k. inv .good i);
+        long = size-put (put t p a) n b ∙ size-put t p a;
+        sum = sum-put2 t p n a b (ga .storable) (gb .storable) hp hn d sum;
+      }
+    where
+      each : (P : ℕ → Entry → Type 0) → P n b → P p a → ((i : ℕ) → i ≢ n → i ≢ p → P i (at t i)) → (i : ℕ) → P i (at (put (put t p a) n b) i)
+      each P = put2-all P t p n a b (ga .storable) (gb .storable) hp hn
+
+      landed : (k x : ℕ) → Lands p n a b k x → Has (put (put t p a) n b) k x
+      landed k x (first e h) =
+          let c : Holds (at (put (put t p a) n b) p) x = each (λ i y. i ≡ p → Holds y x) (λ i. absurd (d (sym i))) (λ i. h) (λ i j l m. absurd (l m)) p refl in
+          rw (← e) (record { direct = c .0; inside = c .1 })
+      landed k x (second e h) =
+          let c : Holds (at (put (put t p a) n b) n) x = each (λ i y. i ≡ n → Holds y x) (λ i. h) (λ i. absurd (d i)) (λ i j l m. absurd (j m)) n refl in
+          rw (← e) (record { direct = c .0; inside = c .1 })
+
+      moved-to : (i x : ℕ) → Has t i x → Dec (i ≡ n) → Dec (i ≡ p) → Has (put (put t p a) n b) (g i x) x
+      moved-to i x h (yes e) f = rw e (landed (g n x) x (cn x (rw e at h)))
+      moved-to i x h (no e) (yes f) = rw f (landed (g p x) x (cp x (rw f at h)))
+      moved-to i x h (no e) (no f) =
+          let c : Holds (at (put (put t p a) n b) i) x = rw (at-other (put t p a) n i b e, at-other t p i a f) (has h) in
+          rw (← others i e f x) (record { direct = c .0; inside = c .1 })
+
+  free-new : newNumber s t ≢ 0 → (at t (newNumber s t) .kind ≡ 0) × (newNumber s t < size t)
+  free-new f = seek-free (size t - 1) t (s .last) (inv .least) f
+
+  apart : {n p : ℕ} → at t n .kind ≢ 0 → at t p .kind ≡ 0 → p ≢ n
+  apart k z e = k (rw (← e) z)
+
+  -- derive and execute-only: a child in the segment of n
+  deed-derive : (q : Request) (n o l p c : ℕ) → at t n .kind ≢ 0 → newNumber s t ≢ 0 → 0 < l → o + l ≤ at t n .length → p < 8 → at t n .count < 65535 → s .next + 1 ≤ spent
+      → Deed m s t q (grantDerive s t n o l p c)
+  deed-derive q n o l p c k f pos b hp hc hn =
+      let in-n : n < size t = in-table t n k in
+      let most : size t ≤ 1024 = inv .most in
+      let low : n < 1024 = omega arith in
+      let whole = range m (at t n) (inv .good n) k in
+      let named-n : parentNumber (childOf s t n o l p) ≡ n = parent-named m n (at t n) (at t n .base + o) l p (childOf s t n o l p .tag) (s .next) (inv .good n) low in
+      deed-put2 q (newNumber s t) n (childOf s t n o l p) (recount (at t n) (at t n .count + 1)) (moved s (newNumber s t) (s .next + 1)) (granted (tokenOf c (newNumber s t) (childOf s t n o l p)) 0 0)
+      (nameOf (newNumber s t) (childOf s t n o l p) ∷ []) stay
+      (omega arith)
+      (issue-indirect m s (newNumber s t) n (at t n) (at t n .base + o) l p (s .next) (inv .small) (inv .good n) low pos (omega arith) hp (omega arith))
+      (recount-good m (at t n) (at t n .count + 1) (inv .good n) k (omega arith))
+      (free-new f .1) in-n (apart k (free-new f .0))
+      (omega (arith, owned-other (at t (newNumber s t)) (omega (arith, free-new f .0))))
+      (kept refl (λ x h. refl) (λ h. (refl, refl)))
+      (issued (omega arith) (omega arith) (List·Memᴰ·head refl)
+      (λ z. (refl, rw named-n (record { low = omega arith; high = omega arith })))
+      (λ z. absurd (omega arith))
+      (λ h. absurd (omega (arith, h .direct, free-new f .0))))
+      (λ i j v x. refl)
+      (λ x h. second refl (has h))
+      (λ x h. absurd (omega (arith, h .direct, free-new f .0)))
+
+  -- create: the bytes of n before y go to p
+  abbrev split : (n p y : ℕ) → ℕ → ℕ → ℕ
+  split n p y k x = cond (eqb k n) (cond (ltb x y) p k) k
+
+  split-front : (n p y x : ℕ) → x < y → p ≡ split n p y n x
+  split-front n p y x h =
+      by-cond (λ r. p ≡ r) (eqb n n)
+      (λ i. by-cond (λ r. p ≡ r) (ltb x y) (λ j. refl) (λ j. absurd (omega (arith, nltb→le x y j))))
+      (λ i. absurd (neqb→ne n n i refl))
+
+  split-back : (n p y x : ℕ) → y ≤ x → n ≡ split n p y n x
+  split-back n p y x h =
+      by-cond (λ r. n ≡ r) (eqb n n)
+      (λ i. by-cond (λ r. n ≡ r) (ltb x y) (λ j. absurd (omega (arith, ltb→lt x y j))) (λ j. refl))
+      (λ i. refl)
+
+  split-other : (n p y k x : ℕ) → k ≢ n → k ≡ split n p y k x
+  split-other n p y k x h =
+      by-cond (λ r. k ≡ r) (eqb k n) (λ i. absurd (h (eqb→eq k n i))) (λ i. refl)
+
+  deed-create : (q : Request) (n l u p c : ℕ) → at t n .kind ≡ 1 → at t n .locked ≡ false → 0 < l → l ≤ at t n .length → newNumber s t ≢ 0
+      → u < 2 ^ 64 → p < 8 → s .next + cond (eqb l (at t n .length)) 1 2 ≤ spent → Deed m s t q (grantCreate s t n l u p c)
+  deed-create q n l u p c k z pos b f hu hp hn =
+      -- the number of nonces taken is 1 or 2 with the same test as the outcome
+      by-both (λ d i. s .next + i ≤ spent → Deed m s t q d) (eqb l (at t n .length))
+      (λ e v.
+      let same : l ≡ at t n .length = eqb→eq l (at t n .length) e in
+      deed-put2 q new n a free (moved s new (s .next + 1)) (granted (tokenOf c new a) 0 0) (nameOf new a ∷ []) (split n new y) (omega arith)
+      (a-good (omega arith)) (free-good m) (free-new f .1) in-n (apart (omega arith) (free-new f .0))
+      (omega (arith, owned-direct (at t n) k, owned-other (at t new) (omega (arith, free-new f .0))))
+      (gone refl unlocked)
+      (issued (omega arith) (omega arith) (List·Memᴰ·head refl) (λ h. absurd (omega arith)) (λ h x i. part x i) (λ h. absurd (vacant h)))
+      (λ i j v x. split-other n new y i x j)
+      (λ x h. first (split-front n new y x (omega (arith, h .inside))) (refl, omega (arith, h .inside)))
+      (λ x h. absurd (omega (arith, h .direct, free-new f .0))))
+      (λ e v.
+      let less : l ≢ at t n .length = neqb→ne l (at t n .length) e in
+      deed-put2 q new n a r (moved s new (s .next + 2)) (granted (tokenOf c new a) (tokenOf c n r) 0) (nameOf new a ∷ nameOf n r ∷ []) (split n new y) (omega arith)
+      (a-good (omega arith))
+      (issue-direct m s n (at t n .base + l) (at t n .length - l) (at t n .user) (at t n .permissions) (at t n .lockable) (s .next + 1) (inv .small) (omega arith) (omega (arith, whole)) (omega (arith, fit)) (omega (arith, fit)) (omega arith))
+      (free-new f .1) in-n (apart (omega arith) (free-new f .0))
+      (omega (arith, owned-direct (at t n) k, owned-other (at t new) (omega (arith, free-new f .0))))
+      (issued (omega arith) (omega arith) (List·Memᴰ·tail (List·Memᴰ·head refl)) (λ h. absurd (omega arith))
+      (λ h x i. record { from = n; has = record { direct = k; inside = omega arith }; to = split-back n new y x (i .0) })
+      (λ h. absurd (unlocked h)))
+      (issued (omega arith) (omega arith) (List·Memᴰ·head refl) (λ h. absurd (omega arith)) (λ h x i. part x i) (λ h. absurd (vacant h)))
+      (λ i j v x. split-other n new y i x j)
+      (λ x h. lands x h (decLt x y))
+      (λ x h. absurd (omega (arith, h .direct, free-new f .0))))
+      hn
+    where
+      new : ℕ
+      new = newNumber s t
+
+      y : ℕ
+      y = at t n .base + l
+
+      a : Entry
+      a = partOf s t (at t n) l u p
+
+      r : Entry
+      r = restOf s n (at t n) l
+
+      whole : (0 < at t n .length) × (at t n .base + at t n .length ≤ m)
+      whole = range m (at t n) (inv .good n) (omega arith)
+
+      fit : Fit directWidths (directFields (at t n))
+      fit = direct-fit m (at t n) (inv .good n) k
+
+      in-n : n < size t
+      in-n = in-table t n (omega arith)
+
+      unlocked : Shut (taskOf q) (at t n) → ⊥
+      unlocked h = let one : _≡_ {A = ℕ} 0 1 = cc (h .locked) in omega arith
+
+      vacant : Shut (taskOf q) (at t new) → ⊥
+      vacant h = omega (arith, h .direct, free-new f .0)
+
+      a-good : s .next < spent → Good m a
+      a-good h = issue-direct m s new (at t n .base) l u p (at t n .lockable) (s .next) (inv .small) pos (omega (arith, whole)) hu hp h
+
+      part : (x : ℕ) → In a x → Source t (split n new y) new x
+      part x i = record { from = n; has = record { direct = k; inside = omega arith }; to = split-front n new y x (i .1) }
+
+      lands : (x : ℕ) → Has t n x → Dec (x < y) → Lands new n a r (split n new y n x) x
+      lands x h (yes i) = first (split-front n new y x i) (refl, omega (arith, h .inside))
+      lands x h (no i) = second (split-back n new y x (omega arith)) (refl, omega (arith, h .inside))
+
+  -- merge: the bytes of k go to n
+  abbrev fuse : (n k : ℕ) → ℕ → ℕ → ℕ
+  fuse n k i x = cond (eqb i k) n i
+
+  fuse-first : (n k x : ℕ) → n ≡ fuse n k n x
+  fuse-first n k x = by-cond (λ r. n ≡ r) (eqb n k) (λ i. refl) (λ i. refl)
+
+  fuse-second : (n k x : ℕ) → n ≡ fuse n k k x
+  fuse-second n k x = by-cond (λ r. n ≡ r) (eqb k k) (λ i. refl) (λ i. absurd (neqb→ne k k i refl))
+
+  fuse-other : (n k i x : ℕ) → i ≢ k → i ≡ fuse n k i x
+  fuse-other n k i x h = by-cond (λ r. i ≡ r) (eqb i k) (λ j. absurd (h (eqb→eq i k j))) (λ j. refl)
+
+  deed-merge : (q : Request) (n k c : ℕ) → at t n .kind ≡ 1 → at t k .kind ≡ 1 → at t n .locked ≡ false → at t k .locked ≡ false
+      → at t k .base ≡ at t n .base + at t n .length → s .next + 1 ≤ spent → Deed m s t q (grantMerge s t n k c)
+  deed-merge q n k c d d′ z z′ b hn =
+      let whole = range m (at t n) (inv .good n) (omega arith) in
+      let whole′ = range m (at t k) (inv .good k) (omega arith) in
+      let fit : Fit directWidths (directFields (at t n)) = direct-fit m (at t n) (inv .good n) d in
+      deed-put2 q k n free a (moved s (s .last) (s .next + 1)) (granted (tokenOf c n a) 0 0) (nameOf n a ∷ []) (fuse n k) (omega arith)
+      (free-good m)
+      (issue-direct m s n (at t n .base) (at t n .length + at t k .length) (at t n .user) (bitAnd (at t n .permissions) (at t k .permissions)) (at t n .lockable) (s .next) (inv .small) (omega arith) (omega arith) (omega arith)
+      (omega (arith, and-le-l (at t n .permissions) (at t k .permissions))) (omega arith))
+      (in-table t k (omega arith)) (in-table t n (omega arith))
+      (λ e. let same : at t k .base ≡ at t n .base = ap (λ (x : ℕ). at t x .base) e in omega arith)
+      (omega (arith, owned-direct (at t n) d, owned-direct (at t k) d′))
+      (issued (omega arith) (omega arith) (List·Memᴰ·head refl) (λ h. absurd (omega arith)) (λ h x i. from x i (decLt x (at t k .base))) (λ h. absurd (unlocked h z)))
+      (gone refl (λ h. unlocked h z′))
+      (λ i j v x. fuse-other n k i x v)
+      (λ x h. second (fuse-first n k x) (refl, omega (arith, h .inside)))
+      (λ x h. second (fuse-second n k x) (refl, omega (arith, h .inside)))
+    where
+      a : Entry
+      a = mergedOf s n (at t n) (at t k)
+
+      unlocked : {e : Entry} → Shut (taskOf q) e → e .locked ≡ false → ⊥
+      unlocked h e = let one : _≡_ {A = ℕ} 0 1 = cc (h .locked) in omega arith
+
+      from : (x : ℕ) → In a x → Dec (x < at t k .base) → Source t (fuse n k) n x
+      from x i (yes h) = record { from = n; has = record { direct = d; inside = omega arith }; to = fuse-first n k x }
+      from x i (no h) = record { from = k; has = record { direct = d′; inside = omega arith }; to = fuse-second n k x }
+
+  -- ---- drop
+
+  -- what it does to an entry
+  data Fades (e e′ : Entry) : Type 0 where
+    stays : core e′ ≡ core e → e′ .locked ≡ e .locked → e′ .holder ≡ e .holder → Fades e e′
+    freed : e′ .kind ≡ 0 → e .kind ≢ 1 → Fades e e′
+
+  same : (e : Entry) → Fades e e
+  same e = stays refl refl refl
+
+  fades-fades : {d e f : Entry} → Fades d e → Fades e f → Fades d f
+  fades-fades (stays i j h) (stays k l g) = stays (k ∙ i) (l ∙ j) (g ∙ h)
+  fades-fades (stays i j h) (freed k l) = freed k (subst (λ (x : Entry). x .kind ≢ 1) i l)
+  fades-fades (freed i j) (stays k l g) = freed (ap (λ (x : Entry). x .kind) k ∙ i) j
+  fades-fades (freed i j) (freed k l) = freed k j
+
+  -- tables of which every entry of the second is a faded one of the first, and good
+  record Fading (u u′ : List ℕ) : Type 0 where
+    each : (n : ℕ) → Fades (at u n) (at u′ n)
+    good : (n : ℕ) → Good m (at u′ n)
+    long : size u′ ≡ size u
+
+  put-fades : (u : List ℕ) → ((n : ℕ) → Good m (at u n)) → (n : ℕ) (e : Entry) → Good m e → Fades (at u n) e → Fading u (put u n e)
+  put-fades u gs n e g h = go (decLt n (size u))
+    where
+      go : Dec (n < size u) → Fading u (put u n e)
+      go (yes i) =
+          record {
+            each = put-all (λ k y. Fades (at u k) y) u n e (g .storable) i h (λ k j. same (at u k));
+            good = put-all (λ k y. Good m y) u n e (g .storable) i g (λ k j. gs k);
+            long = size-put u n e;
+          }
+      go (no i) = rw (put-out u n e (omega arith)) (record { each = λ k. same (at u k); good = gs; long = refl })
+
+  climb-fades : (f : ℕ) (u : List ℕ) (n : ℕ) → ((k : ℕ) → Good m (at u k)) → Fading u (climb f u n)
+  unfolding climb
+  climb-fades zero u n gs = record { each = λ k. same (at u k); good = gs; long = refl }
+  climb-fades (suc f) u n gs =
+      by-cond (Fading u) (leb 2 (at u n .count))
+      (λ i. put-fades u gs n (recount (at u n) (at u n .count - 1))
+      (recount-good m (at u n) (at u n .count - 1) (gs n) (fitting m (at u n) (gs n) .counted (omega (arith, leb→le 2 (at u n .count) i))) (omega (arith, fitting m (at u n) (gs n))))
+      (stays refl refl refl))
+      (λ i. by-cond (Fading u) (eqb (at u n .count) 0) (λ z. record { each = λ k. same (at u k); good = gs; long = refl })
+      (λ z. by-cond (Fading u) (eqb (at u n .kind) 1)
+      (λ j. put-fades u gs n (recount (at u n) 0) (recount-good m (at u n) 0 (gs n) (omega (arith, eqb→eq (at u n .kind) 1 j)) (omega arith)) (stays refl refl refl))
+      (λ j.
+      let once : Fading u (put u n free) = put-fades u gs n free (free-good m) (freed refl (neqb→ne (at u n .kind) 1 j)) in
+      by-cond (Fading u) (linked u (at u n))
+      (λ v.
+      let more : Fading (put u n free) (climb f (put u n free) (parentNumber (at u n))) = climb-fades f (put u n free) (parentNumber (at u n)) (once .good) in
+      record { each = λ k. fades-fades (once .each k) (more .each k); good = more .good; long = more .long ∙ once .long })
+      (λ v. once))))
+
+  deed-fading : (q : Request) (t′ : List ℕ) (r : Reply) → Fading t t′ → Deed m s t q (record { state = s; table = t′; reply = r; issued = []; effect = nothing })
+  deed-fading q t′ r f =
+      record {
+        up = omega arith;
+        moves = stay;
+        fate = λ n. go n (f .each n);
+        carried = λ n x h. bytes n x h (f .each n);
+        spared = λ n x sh nr tc ins. tc;
+        good = f .good;
+        long = f .long;
+        sum = sum-same t t′ (f .long) (λ n. sums n (f .each n));
+      }
+    where
+      sums : (n : ℕ) → Fades (at t n) (at t′ n) → owned (at t′ n) ≡ owned (at t n)
+      sums n (stays i j h) = ap (λ (x : Entry). owned x) i
+      sums n (freed i j) = owned-other (at t′ n) (omega arith) ∙ sym (owned-other (at t n) j)
+
+      bytes : (n x : ℕ) → Has t n x → Fades (at t n) (at t′ n) → Has t′ n x
+      bytes n x h (stays i j k) = record { direct = ap (λ (y : Entry). y .kind) i ∙ h .direct; inside = subst (λ (y : Entry). In y x) (sym i) (h .inside) }
+      bytes n x h (freed i j) = absurd (j (h .direct))
+
+      go : (n : ℕ) → Fades (at t n) (at t′ n) → Fate s t q (s .next) [] stay n (at t′ n)
+      go n (stays i j k) = kept i (λ x h. refl) (λ h. (j, k))
+      go n (freed i j) = gone i (λ h. j (h .direct))
+
+  deed-release : (k : ℕ) (b : List ℕ) → Deed m s t (release k) (grant m s t (release k) b)
+  deed-release k b =
+      let n : ℕ = numberOf k in
+      let one : Bool = eqb (at t n .count) 1 in
+      let locked : Bool = isLocked t (lineOf m t n) in
+      deed-fading (release k) (cond (one && locked) t (climb (suc (at t n .nonce)) t n)) (granted 0 0 (cond (one && not locked) 1 0))
+      (by-cond (Fading t) (one && locked)
+      (λ i. record { each = λ n. same (at t n); good = inv .good; long = refl })
+      (λ i. climb-fades (suc (at t n .nonce)) t n (inv .good)))
+
+  -- ---- revoke and locks
+
+  pub revoked-good : (n : ℕ) → at t n .kind ≡ 1 → revokeNonce s t n < spent → Good m (revokedOf s t n)
+  revoked-good n d hn =
+      let whole = range m (at t n) (inv .good n) (omega arith) in
+      issue-direct m s n (at t n .base) (at t n .length) 0 7 true (revokeNonce s t n) (inv .small) (whole .0) (whole .1) (omega arith) (omega arith) hn
+
+  deed-revoke : (k c : ℕ) → at t (numberOf k) .kind ≡ 1 → revokeNonce s t (numberOf k) < spent → Deed m s t (revoke k c) (grantRevoke s t (numberOf k) c)
+  deed-revoke k c d hn =
+      let n : ℕ = numberOf k in
+      let up : s .next ≤ revokeNonce s t n = pass-up (spent - s .next) s n (fresh (at t n)) (at t n .tag) (s .next) in
+      deed-put (revoke k c) n (revokedOf s t n) (moved s (s .last) (revokeNonce s t n + 1)) (granted (tokenOf c n (revokedOf s t n)) 0 0) (nameOf n (revokedOf s t n) ∷ [])
+      (store (at t n .base) (replicate (at t n .length) 0)) (omega arith)
+      (revoked-good n d hn)
+      (omega arith)
+      (record { kind = sym d; base = refl; length = refl })
+      (issued up (omega arith) (List·Memᴰ·head refl) (λ h. absurd (omega arith)) (λ h x i. record { from = n; has = record { direct = d; inside = i }; to = refl }) (λ h. refl))
+      (λ i x sh nr tc ins. nr (inv .tiled n i x (record { direct = d; inside = (tc .0, omega (arith, tc .1, length-replicate {A = ℕ} (at t n .length) 0)) }) (record { direct = sh .direct; inside = ins })))
+
+  -- lock and unlock write the lock at the owner of a line that is open to the task
+  deed-lock : (q : Request) (n : ℕ) (locked : Bool) (h : ℕ) → T (not (eqb (at t n .kind) 0)) → Live (lineOf m t n) → T (not (lockedFrom t (taskOf q) (lineOf m t n)))
+      → h < 2 ^ 55 → (locked && eqb h 0) ≡ false → (not locked && not (eqb h 0)) ≡ false → Deed m s t q (grantLock s t (ownerOf (lineOf m t n)) locked h)
+  deed-lock q n locked h k v o hh a b =
+      let l : Line = lineOf m t n in
+      let d : at t (ownerOf l) .kind ≡ 1 = owner-direct (owns n k v) in
+      deed-put q (ownerOf l) (relock (at t (ownerOf l)) locked h) s (granted 0 0 0) [] nothing (omega arith)
+      (relock-good m (at t (ownerOf l)) locked h (inv .good (ownerOf l)) d hh a b)
+      (omega arith)
+      (record { kind = refl; base = refl; length = refl })
+      (kept refl (λ x h. refl) (λ i. absurd (owner-open t l (taskOf q) v o i)))
+      (λ i x sh nr tc ins. tc)
+
+  -- ---- every granted request but a reset
+
+  pub deed-granted : (q : Request) (b : List ℕ) → (IsReset q → ⊥) → Passed (checks m s t q b) → Deed m s t q (grant m s t q b)
+  deed-granted (reset k0 k1 ν) b nr h = absurd (nr tt)
+  deed-granted (access w k u) b nr h = deed-access w k u b h
+  deed-granted (create k u l x p c) b nr h =
+      let e : Entry = namedEntry t k in
+      deed-create (create k u l x p c) (numberOf k) l x p c
+      (eqb→eq (e .kind) 1 (search))
+      (T-false (search))
+      (omega (arith, neqb→ne l 0 (search)))
+      (leb→le l (e .length) (search))
+      (neqb→ne (newNumber s t) 0 (search))
+      (ltb→lt x (2 ^ 64) (search))
+      (omega (arith, leb→le p 7 (search)))
+      (leb→le (s .next + cond (eqb l (e .length)) 1 2) spent (search))
+  deed-granted (merge j k u c) b nr h =
+      let d : Entry = namedEntry t j in
+      let e : Entry = namedEntry t k in
+      deed-merge (merge j k u c) (numberOf j) (numberOf k) c
+      (eqb→eq (d .kind) 1 (search))
+      (eqb→eq (e .kind) 1 (search))
+      (T-false (search))
+      (T-false (search))
+      (eqb→eq (e .base) (d .base + d .length) (search))
+      (leb→le (s .next + 1) spent (search))
+  deed-granted (derive k o l p c) b nr h =
+      let e : Entry = namedEntry t k in
+      deed-derive (derive k o l p c) (numberOf k) o l p c
+      (neqb→ne (e .kind) 0 (search))
+      (neqb→ne (newNumber s t) 0 (search))
+      (omega (arith, neqb→ne l 0 (search)))
+      (omega (arith, ltb→lt (l + o) (e .length) (search)))
+      (omega (arith, leb→le p 7 (search)))
+      (ltb→lt (e .count) 65535 (search))
+      (leb→le (s .next + 1) spent (search))
+  deed-granted (executeOnly k c) b nr h =
+      let e : Entry = namedEntry t k in
+      let full : e .kind ≢ 0 = neqb→ne (e .kind) 0 (search) in
+      deed-derive (executeOnly k c) (numberOf k) 0 (e .length) X c
+      full
+      (neqb→ne (newNumber s t) 0 (search))
+      (range m e (inv .good (numberOf k)) full .0)
+      (omega arith)
+      (omega arith)
+      (ltb→lt (e .count) 65535 (search))
+      (leb→le (s .next + 1) spent (search))
+  deed-granted (clone k) b nr h =
+      let e : Entry = namedEntry t k in
+      let full : e .kind ≢ 0 = neqb→ne (e .kind) 0 (search) in
+      deed-put (clone k) (numberOf k) (recount e (e .count + 1)) s (granted 0 0 0) [] nothing (omega arith)
+      (recount-good m e (e .count + 1) (inv .good (numberOf k)) full (omega (arith, ltb→lt (e .count) 65535 (search))))
+      full (record { kind = refl; base = refl; length = refl }) (kept refl (λ x h. refl) (λ h. (refl, refl))) (λ i x sh nr tc ins. tc)
+  deed-granted (release k) b nr h = deed-release k b
+  deed-granted (lock k u) b nr h =
+      deed-lock (lock k u) (numberOf k) true u (search) (search, search) (search) (ltb→lt u (2 ^ 55) (search)) (T-false (search)) refl
+  deed-granted (unlock k u) b nr h = deed-lock (unlock k u) (numberOf k) false 0 (search) (search, search) (search) (omega arith) refl refl
+  deed-granted (revoke k c) b nr h =
+      deed-revoke k c (eqb→eq (namedEntry t k .kind) 1 (search)) (ltb→lt (revokeNonce s t (numberOf k)) spent (search))

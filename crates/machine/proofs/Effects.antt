@@ -1,0 +1,73 @@
+-- What an effect does to memory and buffer.
+-- Assumes nothing.
+use mathlib.Core.Path.{_≡_, refl, sym, _∙_}
+use mathlib.Core.List.{List, [], _∷_}
+use Prim.Native.Nat.{ℕ, zero, suc, _+_, _≤_, _<_}
+use native.Mathlib.Omega.{arith}
+use native.Mathlib.Decide.{decLt, ℕ-discrete}
+use lib.ListN.{length, getD, set, replicate, length-set, List·getD-eq-default}
+use lib.Seq.{sets, length-sets, getD-set-same, getD-set-other, set-out}
+use Rattle.machine.specs.Operations.{Effect, load, nothing, store}
+use Rattle.machine.specs.Steps.{bufferAfter, memoryAfter}
+use Rattle.machine.proofs.Fates.{Touches}
+use Rattle.machine.proofs.SliceLaws.{sets-other, slice-agree}
+
+pub memory-long : (f : Effect) (m : List ℕ) → length (memoryAfter f m) ≡ length m
+memory-long nothing m = refl
+memory-long (load a n) m = refl
+memory-long (store a bs) m = length-sets m a bs
+
+-- a byte that it does not touch
+pub memory-other : (f : Effect) (m : List ℕ) (x : ℕ) → (Touches f x → ⊥) → getD (memoryAfter f m) x 0 ≡ getD m x 0
+memory-other nothing m x h = refl
+memory-other (load a n) m x h = refl
+memory-other (store a bs) m x h = sets-other m a bs x h
+
+-- the same store in two memories that agree at x
+set-agree : (m m′ : List ℕ) (a b x : ℕ) → length m ≡ length m′ → getD m x 0 ≡ getD m′ x 0 → getD (set m a b) x 0 ≡ getD (set m′ a b) x 0
+set-agree m m′ a b x l h = go (ℕ-discrete x a) (decLt a (length m))
+  where
+    go : Dec (x ≡ a) → Dec (a < length m) → getD (set m a b) x 0 ≡ getD (set m′ a b) x 0
+    go (yes e) (yes i) = rw (e, getD-set-same m a b 0 i, getD-set-same m′ a b 0 (omega arith))
+    go (yes e) (no i) = rw (set-out m a b (omega arith), set-out m′ a b (omega arith)) h
+    go (no e) d = getD-set-other m a x b 0 e ∙ h ∙ sym (getD-set-other m′ a x b 0 e)
+
+sets-agree : (m m′ : List ℕ) (a : ℕ) (bs : List ℕ) (x : ℕ) → length m ≡ length m′ → getD m x 0 ≡ getD m′ x 0 → getD (sets m a bs) x 0 ≡ getD (sets m′ a bs) x 0
+sets-agree m m′ a [] x l h = h
+sets-agree m m′ a (b ∷ bs) x l h = sets-agree (set m a b) (set m′ a b) (suc a) bs x (length-set m a b ∙ l ∙ sym (length-set m′ a b)) (set-agree m m′ a b x l h)
+
+pub memory-agree : (f : Effect) (m m′ : List ℕ) (x : ℕ) → length m ≡ length m′ → getD m x 0 ≡ getD m′ x 0 → getD (memoryAfter f m) x 0 ≡ getD (memoryAfter f m′) x 0
+memory-agree nothing m m′ x l h = h
+memory-agree (load a n) m m′ x l h = h
+memory-agree (store a bs) m m′ x l h = sets-agree m m′ a bs x l h
+
+-- what is read from two memories that agree where it is read
+pub buffer-agree : (f : Effect) (m m′ b : List ℕ) → length m ≡ length m′ → ((x : ℕ) → Touches f x → getD m x 0 ≡ getD m′ x 0) → bufferAfter f m b ≡ bufferAfter f m′ b
+buffer-agree nothing m m′ b l h = refl
+buffer-agree (load a n) m m′ b l h = slice-agree m m′ a n l h
+buffer-agree (store a bs) m m′ b l h = refl
+
+-- zeros that were stored
+set-zero : (m : List ℕ) (a x : ℕ) → getD m x 0 ≡ 0 → getD (set m a 0) x 0 ≡ 0
+set-zero m a x h = go (ℕ-discrete x a) (decLt a (length m))
+  where
+    go : Dec (x ≡ a) → Dec (a < length m) → getD (set m a 0) x 0 ≡ 0
+    go (yes e) (yes i) = rw (e, getD-set-same m a 0 0 i)
+    go (yes e) (no i) = rw (set-out m a 0 (omega arith)) h
+    go (no e) d = getD-set-other m a x 0 0 e ∙ h
+
+zeros-stay : (n : ℕ) (m : List ℕ) (a x : ℕ) → getD m x 0 ≡ 0 → getD (sets m a (replicate n 0)) x 0 ≡ 0
+zeros-stay zero m a x h = h
+zeros-stay (suc n) m a x h = zeros-stay n (set m a 0) (suc a) x (set-zero m a x h)
+
+pub zeros : (n : ℕ) (m : List ℕ) (a x : ℕ) → a ≤ x → x < a + n → getD (sets m a (replicate n 0)) x 0 ≡ 0
+zeros zero m a x h i = absurd (omega arith)
+zeros (suc n) m a x h i = go (λ j. zeros n (set m a 0) (suc a) x j (omega arith)) (ℕ-discrete x a)
+  where
+    here : Dec (a < length m) → getD (set m a 0) a 0 ≡ 0
+    here (yes j) = getD-set-same m a 0 0 j
+    here (no j) = rw (set-out m a 0 (omega arith)) (List·getD-eq-default m 0 (omega arith))
+
+    go : (suc a ≤ x → getD (sets (set m a 0) (suc a) (replicate n 0)) x 0 ≡ 0) → Dec (x ≡ a) → getD (sets m a (replicate (suc n) 0)) x 0 ≡ 0
+    go f (yes e) = zeros-stay n (set m a 0) (suc a) x (rw e (here (decLt a (length m))))
+    go f (no e) = f (omega arith)

@@ -1,0 +1,23 @@
+-- What holds from reset on does hold.
+-- Assumes nothing.
+use mathlib.Core.Path.{sym, _∙_}
+use Rattle.machine.specs.Demand3.{resetCall}
+use Rattle.machine.specs.FromReset.{FromReset}
+use Rattle.machine.specs.Steps.{Machine, run, step}
+use Rattle.machine.proofs.Runs.{run-long, run-sum, run-well, sum-reset, Well, well-reset}
+
+pub from-reset : FromReset
+unfolding FromReset
+from-reset σ k0 k1 ν b ok after nr =
+    let ρ : Machine = step σ (resetCall k0 k1 ν b) in
+    let first : Well ρ = well-reset σ k0 k1 ν b ok in
+    let inv : Well (run ρ after) = run-well ρ after first nr in
+    record {
+      sum = run-sum ρ after first nr ∙ sum-reset σ k0 k1 ν b ok ∙ sym (run-long ρ after);
+      one = inv .tiled;
+      some = inv .covered;
+      formed = λ n k. inv .good n .formed;
+      storable = λ n k. inv .good n .storable;
+      below = inv .below;
+      inside = inv .inside;
+    }

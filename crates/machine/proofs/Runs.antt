@@ -1,0 +1,251 @@
+-- Requests one after the other: what holds from reset on, the age of entries, and the tokens that were given.
+-- Assumes nothing.
+use mathlib.Core.Path.{_≡_, refl, sym, ap, subst, _∙_}
+use mathlib.Core.Logic.{_≢_}
+use mathlib.Core.Bool.{true}
+use mathlib.Core.List.{List, [], _∷_, _++_, List·Memᴰ, Memᴰ·append-left, Memᴰ·append-right}
+use Prim.Native.Nat.{ℕ, _≤_, _<_}
+use native.Mathlib.Omega.{arith}
+use native.Mathlib.Decide.{decLt}
+use lib.Dec.{eqb, leb→le}
+use lib.ListN.{length}
+use Rattle.layout.specs.declared.entry.Entry.{Entry}
+use Rattle.machine.specs.Demand3.{Accepted, IsReset, issuedIn, NoReset, resetCall}
+use Rattle.machine.specs.FromReset.{ownedInAll}
+use Rattle.machine.specs.Operations.{Decision, grant, grantReset, nameOf, nothing}
+use Rattle.machine.specs.Parts.{at, cleared, mostEntries, mostMemory, put, root, size, State}
+use Rattle.machine.specs.Requests.{access, Call, clone, create, derive, executeOnly, lock, merge, release, Request, reset, revoke, unlock}
+use Rattle.machine.specs.Steps.{answer, decide, decision, Machine, pass, refused, run, settle, step, stop, Verdict, verdict}
+use Rattle.machine.specs.Stops.{Check, checks}
+use Rattle.machine.proofs.Basics.{by-cond, numbered, passed, Passed, put-all, stopped}
+use Rattle.machine.proofs.Deeds.{deed-granted, deed-none}
+use Rattle.machine.proofs.Effects.{memory-long}
+use Rattle.machine.proofs.Fates.{core, Deed, Inv, inv-step, new-given, old-core}
+use Rattle.machine.proofs.Sums.{sum-first}
+use Rattle.machine.proofs.TableLaws.{at-cleared, at-same, size-cleared, size-put}
+use Rattle.machine.proofs.Written.{direct-good, free-good, Good}
+
+-- ---- one request
+
+pub deed : (m : ℕ) (s : State) (t : List ℕ) (q : Request) (b : List ℕ) → Inv m s t → (IsReset q → ⊥) → Deed m s t q (decide m s t q b)
+unfolding decide
+deed m s t q b inv nr = go (verdict (checks m s t q b)) refl
+  where
+    go : (v : Verdict) → verdict (checks m s t q b) ≡ v → Deed m s t q (settle v m s t q b)
+    go pass e = deed-granted m s t inv q b nr (passed (checks m s t q b) e)
+    go (stop r p) e = deed-none m s t inv q (refused s t r p .reply) nothing (λ n x sh nr tc ins. tc)
+
+-- what holds of a machine from reset on
+abbrev pub Well : Machine → Type 0
+Well σ = Inv (length (σ .memory)) (σ .state) (σ .table)
+
+abbrev pub NotReset : Call → Type 0
+NotReset q = IsReset (q .request) → ⊥
+
+pub deed-of : (σ : Machine) (q : Call) → Well σ → NotReset q → Deed (length (σ .memory)) (σ .state) (σ .table) (q .request) (decision σ q)
+deed-of σ q inv nr = deed (length (σ .memory)) (σ .state) (σ .table) (q .request) (q .buffer) inv nr
+
+-- every refusal has a number that is not 0, and what is granted answers 0
+numbers : (m : ℕ) (s : State) (t : List ℕ) (q : Request) (b : List ℕ) → (numbered (checks m s t q b) ≡ true) × (grant m s t q b .reply .refusal ≡ 0)
+numbers m s t (reset k0 k1 ν) b = (refl, refl)
+numbers m s t (access w k u) b = (refl, refl)
+numbers m s t (create k u l x p c) b = (refl, by-cond (λ (d : Decision). d .reply .refusal ≡ 0) (eqb l (at t _ .length)) (λ i. refl) (λ i. refl))
+numbers m s t (merge j k u c) b = (refl, refl)
+numbers m s t (derive k o l p c) b = (refl, refl)
+numbers m s t (executeOnly k c) b = (refl, refl)
+numbers m s t (clone k) b = (refl, refl)
+numbers m s t (release k) b = (refl, refl)
+numbers m s t (lock k u) b = (refl, refl)
+numbers m s t (unlock k u) b = (refl, refl)
+numbers m s t (revoke k c) b = (refl, refl)
+
+module _ (σ : Machine) (q : Call) where
+  abbrev cs : List Check
+  cs = checks (length (σ .memory)) (σ .state) (σ .table) (q .request) (q .buffer)
+
+  abbrev given : Decision
+  given = grant (length (σ .memory)) (σ .state) (σ .table) (q .request) (q .buffer)
+
+  -- a request is accepted, having passed its checks, and does what `grant` says; or it changes nothing
+  pub data Turned : Type 0 where
+    taken : Accepted σ q → Passed cs → decision σ q ≡ given → Turned
+    away : decision σ q .state ≡ σ .state → decision σ q .table ≡ σ .table → decision σ q .effect ≡ nothing → (Accepted σ q → ⊥) → Turned
+
+  pub turned : Turned
+  unfolding answer decide
+  turned = go (verdict cs) refl
+    where
+      all : (numbered cs ≡ true) × (given .reply .refusal ≡ 0)
+      all = numbers (length (σ .memory)) (σ .state) (σ .table) (q .request) (q .buffer)
+
+      go : (v : Verdict) → verdict cs ≡ v → Turned
+      go pass e = taken (rw e (all .1)) (passed cs e) (rw e refl)
+      go (stop r p) e = away (rw e refl) (rw e refl) (rw e refl) (λ a. stopped cs r p (all .0) e (rw e at a))
+
+  pub accepted : Accepted σ q → Passed cs × (decision σ q ≡ given)
+  accepted a = go turned
+    where
+      go : Turned → Passed cs × (decision σ q ≡ given)
+      go (taken b p e) = (p, e)
+      go (away i j k n) = absurd (n a)
+
+-- a request leaves the memory's length
+pub step-long : (σ : Machine) (q : Call) → length (step σ q .memory) ≡ length (σ .memory)
+unfolding step
+step-long σ q = memory-long (decision σ q .effect) (σ .memory)
+
+module _ (σ : Machine) (q : Call) (inv : Well σ) (nr : NotReset q) where
+  pub step-well : Well (step σ q)
+  unfolding step
+  step-well = rw memory-long (inv-step (length (σ .memory)) (σ .state) (σ .table) (q .request) (decision σ q) inv (deed-of σ q inv nr))
+
+  pub step-up : σ .state .next ≤ step σ q .state .next
+  unfolding step
+  step-up = deed-of σ q inv nr .up
+
+  step-sum : ownedInAll (step σ q .table) ≡ ownedInAll (σ .table)
+  unfolding step
+  step-sum = deed-of σ q inv nr .sum
+
+  step-old : (n : ℕ) → at (step σ q .table) n .kind ≢ 0 → at (step σ q .table) n .nonce < σ .state .next → core (at (step σ q .table) n) ≡ core (at (σ .table) n)
+  unfolding step
+  step-old = old-core (length (σ .memory)) (σ .state) (σ .table) (q .request) (decision σ q) inv (deed-of σ q inv nr)
+
+  step-new : (n : ℕ) → at (step σ q .table) n .kind ≢ 0 → σ .state .next ≤ at (step σ q .table) n .nonce
+      → List·Memᴰ (nameOf n (at (step σ q .table) n)) (decision σ q .issued)
+  unfolding step
+  step-new = new-given (length (σ .memory)) (σ .state) (σ .table) (q .request) (decision σ q) inv (deed-of σ q inv nr)
+
+-- ---- lists
+
+pub run-append : (σ : Machine) (a b : List Call) → run σ (a ++ b) ≡ run (run σ a) b
+run-append σ [] b = refl
+run-append σ (q ∷ a) b = run-append (step σ q) a b
+
+pub none-append : (a b : List Call) → NoReset a → NoReset b → NoReset (a ++ b)
+none-append [] b n k = k
+none-append (q ∷ a) b n k = (n .0, none-append a b (n .1) k)
+
+pub none-split : (a b : List Call) → NoReset (a ++ b) → NoReset a × NoReset b
+none-split [] b n = (tt, n)
+none-split (q ∷ a) b n =
+    let rest = none-split a b (n .1) in
+    ((n .0, rest .0), rest .1)
+
+pub run-long : (σ : Machine) (qs : List Call) → length (run σ qs .memory) ≡ length (σ .memory)
+run-long σ [] = refl
+run-long σ (q ∷ qs) = run-long (step σ q) qs ∙ step-long σ q
+
+pub run-well : (σ : Machine) (qs : List Call) → Well σ → NoReset qs → Well (run σ qs)
+run-well σ [] inv nr = inv
+run-well σ (q ∷ qs) inv nr = run-well (step σ q) qs (step-well σ q inv (nr .0)) (nr .1)
+
+pub run-up : (σ : Machine) (qs : List Call) → Well σ → NoReset qs → σ .state .next ≤ run σ qs .state .next
+run-up σ [] inv nr = omega arith
+run-up σ (q ∷ qs) inv nr = omega (arith, step-up σ q inv (nr .0), run-up (step σ q) qs (step-well σ q inv (nr .0)) (nr .1))
+
+pub run-sum : (σ : Machine) (qs : List Call) → Well σ → NoReset qs → ownedInAll (run σ qs .table) ≡ ownedInAll (σ .table)
+run-sum σ [] inv nr = refl
+run-sum σ (q ∷ qs) inv nr = run-sum (step σ q) qs (step-well σ q inv (nr .0)) (nr .1) ∙ step-sum σ q inv (nr .0)
+
+-- an entry whose nonce was taken before is as it was then
+pub run-old : (σ : Machine) (qs : List Call) → Well σ → NoReset qs → (n : ℕ) → at (run σ qs .table) n .kind ≢ 0
+    → at (run σ qs .table) n .nonce < σ .state .next → core (at (run σ qs .table) n) ≡ core (at (σ .table) n)
+run-old σ [] inv nr n k h = refl
+run-old σ (q ∷ qs) inv nr n k h =
+    let later : core (at (run (step σ q) qs .table) n) ≡ core (at (step σ q .table) n) =
+    run-old (step σ q) qs (step-well σ q inv (nr .0)) (nr .1) n k (omega (arith, step-up σ q inv (nr .0))) in
+    later ∙ step-old σ q inv (nr .0) n (subst (λ (x : Entry). x .kind ≢ 0) later k) (subst (λ (x : Entry). x .nonce < σ .state .next) later h)
+
+-- an entry whose nonce was taken since was given since
+pub run-new : (σ : Machine) (qs : List Call) → Well σ → NoReset qs → (n : ℕ) → at (run σ qs .table) n .kind ≢ 0
+    → σ .state .next ≤ at (run σ qs .table) n .nonce → List·Memᴰ (nameOf n (at (run σ qs .table) n)) (issuedIn σ qs)
+run-new σ [] inv nr n k h = absurd (omega (arith, inv .below n k))
+run-new σ (q ∷ qs) inv nr n k h =
+    go (run-new (step σ q) qs (step-well σ q inv (nr .0)) (nr .1) n k) (decLt (at (run (step σ q) qs .table) n .nonce) (step σ q .state .next))
+  where
+    go : (step σ q .state .next ≤ at (run (step σ q) qs .table) n .nonce → List·Memᴰ (nameOf n (at (run (step σ q) qs .table) n)) (issuedIn (step σ q) qs))
+        → Dec (at (run (step σ q) qs .table) n .nonce < step σ q .state .next) → List·Memᴰ (nameOf n (at (run (step σ q) qs .table) n)) (issuedIn σ (q ∷ qs))
+    go f (yes i) =
+        let later : core (at (run (step σ q) qs .table) n) ≡ core (at (step σ q .table) n) = run-old (step σ q) qs (step-well σ q inv (nr .0)) (nr .1) n k i in
+        let then : List·Memᴰ (nameOf n (at (step σ q .table) n)) (decision σ q .issued) =
+        step-new σ q inv (nr .0) n (subst (λ (x : Entry). x .kind ≢ 0) later k) (subst (λ (x : Entry). σ .state .next ≤ x .nonce) later h) in
+        Memᴰ·append-left {s = decision σ q .issued} (issuedIn (step σ q) qs) (subst (λ (x : Entry). List·Memᴰ (nameOf n x) (decision σ q .issued)) (sym later) then)
+    go f (no i) = Memᴰ·append-right (decision σ q .issued) (f (omega arith))
+
+-- ---- reset
+
+-- only the root is there
+data First (m n : ℕ) (e : Entry) : Type 0 where
+  whole : n ≡ 0 → e ≡ root m → First m n e
+  none : e .kind ≡ 0 → First m n e
+
+module _ (m : ℕ) (t : List ℕ) (k0 k1 ν : ℕ) (lo : 1 ≤ m) (hi : m ≤ mostMemory) (least : 2 ≤ size t) (most : size t ≤ mostEntries) (pos : 1 ≤ ν) where
+  abbrev clean : List ℕ
+  clean = put (cleared t) 0 (root m)
+
+  root-good : Good m (root m)
+  root-good = direct-good m 0 m 0 7 true 0 0 hi lo (omega arith) (omega arith) (omega arith) (omega arith) (omega arith)
+
+  there : at clean 0 ≡ root m
+  there = at-same (cleared t) 0 (root m) (root-good .storable) (omega (arith, size-cleared t))
+
+  first : (P : ℕ → Entry → Type 0) → P 0 (root m) → ((n : ℕ) → n ≢ 0 → P n (at (cleared t) n)) → (n : ℕ) → P n (at clean n)
+  first P = put-all P (cleared t) 0 (root m) (root-good .storable) (omega (arith, size-cleared t))
+
+  firsts : (n : ℕ) → First m n (at clean n)
+  firsts = first (First m) (whole refl refl) (λ n i. rw at-cleared (none refl))
+
+  only : (n : ℕ) → at clean n .kind ≢ 0 → First m n (at clean n) → (n ≡ 0) × (at clean n ≡ root m)
+  only n k (whole a e) = (a, e)
+  only n k (none z) = absurd (k z)
+
+  pub reset-inv : Inv m (grantReset m t k0 k1 ν .state) clean
+  reset-inv =
+      record {
+        below = λ n k. omega (arith, ap (λ (x : Entry). x .nonce) (only n k (firsts n) .1));
+        inside = λ n l. absurd (omega (arith, l .indirect, ap (λ (x : Entry). x .kind) (only n (omega (arith, l .indirect)) (firsts n) .1)));
+        tiled = λ n k x a b. only n (omega (arith, a .direct)) (firsts n) .0 ∙ sym (only k (omega (arith, b .direct)) (firsts k) .0);
+        covered = λ x h. record { owner = 0; has = record { direct = ap (λ (e : Entry). e .kind) there; inside = rw there (omega arith) } };
+        good = first (λ n e. Good m e) root-good (λ n i. rw at-cleared (free-good m));
+        small = hi;
+        least = omega (arith, size-put (cleared t) 0 (root m), size-cleared t);
+        most = omega (arith, size-put (cleared t) 0 (root m), size-cleared t);
+      }
+
+  pub reset-sum : ownedInAll clean ≡ m
+  reset-sum = sum-first t (root m) (root-good .storable) (omega arith)
+
+-- a granted reset over any machine
+module _ (σ : Machine) (k0 k1 ν : ℕ) (b : List ℕ) (ok : Accepted σ (resetCall k0 k1 ν b)) where
+  abbrev m : ℕ
+  m = length (σ .memory)
+
+  abbrev t : List ℕ
+  t = σ .table
+
+  fine : Passed (checks m (σ .state) t (reset k0 k1 ν) b) × (decision σ (resetCall k0 k1 ν b) ≡ grantReset m t k0 k1 ν)
+  fine = accepted σ (resetCall k0 k1 ν b) ok
+
+  lo : 1 ≤ m
+  lo = let h = fine .0 in leb→le 1 m (search)
+
+  hi : m ≤ mostMemory
+  hi = let h = fine .0 in leb→le m mostMemory (search)
+
+  least : 2 ≤ size t
+  least = let h = fine .0 in leb→le 2 (size t) (search)
+
+  most : size t ≤ mostEntries
+  most = let h = fine .0 in leb→le (size t) mostEntries (search)
+
+  pos : 1 ≤ ν
+  pos = let h = fine .0 in leb→le 1 ν (search)
+
+  pub well-reset : Well (step σ (resetCall k0 k1 ν b))
+  unfolding step
+  well-reset = rw (fine .1) (reset-inv m t k0 k1 ν lo hi least most pos)
+
+  pub sum-reset : ownedInAll (step σ (resetCall k0 k1 ν b) .table) ≡ length (step σ (resetCall k0 k1 ν b) .memory)
+  unfolding step
+  sum-reset = rw (fine .1) (reset-sum m t k0 k1 ν lo hi least most pos)

@@ -1,0 +1,501 @@
+-- Demand 3 holds.
+-- Assumes nothing.
+use mathlib.Core.Path.{_≡_, refl, sym, ap, ap₂, subst, _∙_}
+use mathlib.Core.Logic.{_≢_}
+use mathlib.Core.Bool.{true}
+use mathlib.Core.List.{List, [], _∷_, _++_, append-assoc, List·Memᴰ}
+use Prim.Native.Nat.{ℕ, suc, _+_, _-_, _≤_, _<_}
+use native.Mathlib.Omega.{arith}
+use native.Mathlib.Decide.{decLe, decLt, ℕ-discrete}
+use lib.Dec.{eqb→eq, ltb→lt}
+use lib.ListN.{drop, getD, length, replicate, take}
+use lib.Seq.{ext-getD}
+use Rattle.layout.specs.Token.{named}
+use Rattle.layout.specs.declared.entry.Entry.{Entry}
+use Rattle.machine.specs.Demand3.{above, Accepted, Alike, Closed, Demand3, In, IsReset, issuedIn, itself, LockedFor, NoneCarries, NoReset, Owns, resetCall, Revokes, Under, Unrevoked}
+use Rattle.machine.specs.Line.{lineOf, ownerOf, parentNumber}
+use Rattle.machine.specs.Operations.{Decision, Effect, fresh, grant, grantRevoke, Name, nameOf, numberOf, revokedOf, revokeNonce, store}
+use Rattle.machine.specs.Parts.{at, put, spent}
+use Rattle.machine.specs.Requests.{access, Call, clone, create, derive, executeOnly, lock, merge, release, Request, reset, revoke, taskOf, unlock}
+use Rattle.machine.specs.Steps.{answer, answers, bufferAfter, decide, decision, Machine, memoryAfter, run, step}
+use Rattle.machine.specs.Stops.{checks}
+use Rattle.machine.proofs.Basics.{Link, link, Live, neqb→ne, owner-direct, owner-unique, parent, pass-up, Passed, walk-owns}
+use Rattle.machine.proofs.Deeds.{revoked-good}
+use Rattle.machine.proofs.Effects.{buffer-agree, memory-agree, memory-long, memory-other, zeros}
+use Rattle.machine.proofs.Fates.{core, Deed, linked-same, Shut, shut-stays, Touches}
+use Rattle.machine.proofs.Runs.{accepted, away, deed-of, none-append, none-split, NotReset, run-append, run-new, run-old, run-up, run-well, step-up, step-well, taken, Turned, turned, Well, well-reset}
+use Rattle.machine.proofs.SliceLaws.{all-zeros}
+use Rattle.machine.proofs.TableLaws.{at-same, in-table}
+use Rattle.machine.proofs.Written.{Good, range}
+
+-- ---- the lock holds
+
+lock-shut : (σ : Machine) (s t : ℕ) (q : Call) → LockedFor σ s t → taskOf (q .request) ≢ t → Shut (taskOf (q .request)) (at (σ .table) s)
+lock-shut σ s t q l h = record { direct = l .direct; locked = l .locked; other = λ e. h (sym e ∙ l .held) }
+
+-- q is no accepted revoke of s
+abbrev Spares : Machine → Call → ℕ → Type 0
+Spares σ q s = Revokes (q .request) s → Accepted σ q → ⊥
+
+-- what a request of another task does to the locked segment: nothing
+record Guard (σ : Machine) (s : ℕ) (d : Decision) : Type 0 where
+  same : core (at (d .table) s) ≡ core (at (σ .table) s)
+  locked : at (d .table) s .locked ≡ at (σ .table) s .locked
+  holder : at (d .table) s .holder ≡ at (σ .table) s .holder
+  untouched : (x : ℕ) → Touches (d .effect) x → In (at (σ .table) s) x → ⊥
+
+guard : (σ : Machine) (s t : ℕ) (q : Call) → Well σ → NotReset q → LockedFor σ s t → taskOf (q .request) ≢ t → Spares σ q s → Guard σ s (decision σ q)
+guard σ s t q inv nr l h r = go (turned σ q)
+  where
+    sh : Shut (taskOf (q .request)) (at (σ .table) s)
+    sh = lock-shut σ s t q l h
+
+    go : Turned σ q → Guard σ s (decision σ q)
+    go (taken a p e) =
+        let d : Deed (length (σ .memory)) (σ .state) (σ .table) (q .request) (decision σ q) = deed-of σ q inv nr in
+        let k = shut-stays (length (σ .memory)) (σ .state) (σ .table) (q .request) (decision σ q) inv d s sh (λ v. r v a) in
+        record { same = k .0; locked = k .1 .0; holder = k .1 .1; untouched = λ x tc i. d .spared s x sh (λ v. r v a) tc i }
+    go (away e f g na) =
+        record {
+          same = ap (λ (u : List ℕ). core (at u s)) f;
+          locked = ap (λ (u : List ℕ). at u s .locked) f;
+          holder = ap (λ (u : List ℕ). at u s .holder) f;
+          untouched = λ x tc i. subst (λ (y : Effect). Touches y x) g tc;
+        }
+
+lock-step : (σ : Machine) (s t : ℕ) (q : Call) → LockedFor σ s t → Guard σ s (decision σ q) → LockedFor (step σ q) s t
+unfolding step
+lock-step σ s t q l g = record { direct = ap (λ (x : Entry). x .kind) (g .same) ∙ l .direct; locked = g .locked ∙ l .locked; held = g .holder ∙ l .held }
+
+core-step : (σ : Machine) (s : ℕ) (q : Call) → Guard σ s (decision σ q) → core (at (step σ q .table) s) ≡ core (at (σ .table) s)
+unfolding step
+core-step σ s q g = g .same
+
+-- as long as the segment is not revoked
+record Held (σ τ : Machine) (s t : ℕ) : Type 0 where
+  lock : LockedFor τ s t
+  same : core (at (τ .table) s) ≡ core (at (σ .table) s)
+
+lock-run : (σ : Machine) (s t : ℕ) (qs : List Call) → Well σ → NoReset qs → LockedFor σ s t → NoneCarries t qs → Unrevoked σ qs s → Held σ (run σ qs) s t
+lock-run σ s t [] inv nr l n u = record { lock = l; same = refl }
+lock-run σ s t (q ∷ qs) inv nr l n u =
+    let g : Guard σ s (decision σ q) = guard σ s t q inv (nr .0) l (n .0) (u .0) in
+    let h : Held (step σ q) (run (step σ q) qs) s t = lock-run (step σ q) s t qs (step-well σ q inv (nr .0)) (nr .1) (lock-step σ s t q l g) (n .1) (u .1) in
+    record { lock = h .lock; same = h .same ∙ core-step σ s q g }
+
+-- ---- revocation
+
+-- the request is a revoke of s, or it is not
+data Revoke (q : Request) (s : ℕ) : Type 0 where
+  is : (k c : ℕ) → q ≡ revoke k c → numberOf k ≡ s → Revoke q s
+  isnt : (Revokes q s → ⊥) → Revoke q s
+
+as-revoke : (q : Request) (s : ℕ) → Revoke q s
+as-revoke (reset k0 k1 ν) s = isnt (λ h. h)
+as-revoke (access w k u) s = isnt (λ h. h)
+as-revoke (create k u l x p c) s = isnt (λ h. h)
+as-revoke (merge j k u c) s = isnt (λ h. h)
+as-revoke (derive k o l p c) s = isnt (λ h. h)
+as-revoke (executeOnly k c) s = isnt (λ h. h)
+as-revoke (clone k) s = isnt (λ h. h)
+as-revoke (release k) s = isnt (λ h. h)
+as-revoke (lock k u) s = isnt (λ h. h)
+as-revoke (unlock k u) s = isnt (λ h. h)
+as-revoke (revoke k c) s = go (ℕ-discrete (numberOf k) s)
+  where
+    go : Dec (numberOf k ≡ s) → Revoke (revoke k c) s
+    go (yes v) = is k c refl v
+    go (no v) = isnt v
+
+no-reset : (q : Request) (s : ℕ) → Revokes q s → IsReset q → ⊥
+no-reset q s v i = go (as-revoke q s)
+  where
+    go : Revoke q s → ⊥
+    go (is k c e n) = subst IsReset e i
+    go (isnt n) = n v
+
+-- a revoke of s that is granted, in some encoding
+record Wipe (σ : Machine) (s : ℕ) (r : Call) : Type 0 where
+  encoding : ℕ
+  done : decision σ r ≡ grantRevoke (σ .state) (σ .table) s encoding
+  direct : at (σ .table) s .kind ≡ 1
+  left : revokeNonce (σ .state) (σ .table) s < spent
+
+wipe : (σ : Machine) (s : ℕ) (r : Call) → Revokes (r .request) s → Accepted σ r → Wipe σ s r
+wipe σ s r v a = go (as-revoke (r .request) s)
+  where
+    m : ℕ
+    m = length (σ .memory)
+
+    go : Revoke (r .request) s → Wipe σ s r
+    go (isnt n) = absurd (n v)
+    go (is k c e n) =
+        let both = accepted σ r a in
+        let h : Passed (checks m (σ .state) (σ .table) (revoke k c) (r .buffer)) = subst (λ (q : Request). Passed (checks m (σ .state) (σ .table) q (r .buffer))) e (both .0) in
+        record {
+          encoding = c;
+          done = both .1 ∙ ap (λ (q : Request). grant m (σ .state) (σ .table) q (r .buffer)) e ∙ ap (λ (i : ℕ). grantRevoke (σ .state) (σ .table) i c) n;
+          direct = subst (λ (i : ℕ). at (σ .table) i .kind ≡ 1) n (eqb→eq (at (σ .table) (numberOf k) .kind) 1 (search));
+          left = subst (λ (i : ℕ). revokeNonce (σ .state) (σ .table) i < spent) n (ltb→lt (revokeNonce (σ .state) (σ .table) (numberOf k)) spent (search));
+        }
+
+-- the new entry has a new nonce
+revoke-nonce : (σ : Machine) (s : ℕ) (r : Call) → Well σ → Wipe σ s r → σ .state .next ≤ at (step σ r .table) s .nonce
+unfolding step
+revoke-nonce σ s r inv w =
+    let e : Entry = revokedOf (σ .state) (σ .table) s in
+    let up : σ .state .next ≤ revokeNonce (σ .state) (σ .table) s = pass-up (spent - σ .state .next) (σ .state) s (fresh (at (σ .table) s)) (at (σ .table) s .tag) (σ .state .next) in
+    let good : Good (length (σ .memory)) e = revoked-good (length (σ .memory)) (σ .state) (σ .table) inv s (w .direct) (w .left) in
+    let new : at (put (σ .table) s e) s ≡ e = at-same (σ .table) s e (good .storable) (in-table (σ .table) s (omega (arith, w .direct))) in
+    rw (w .done, new) up
+
+-- a walk whose first nonce is old was the same walk then
+owns-old : (σ : Machine) (qs : List Call) → Well σ → NoReset qs → {n k : ℕ} → Owns (run σ qs .table) n k → at (run σ qs .table) n .nonce < σ .state .next
+    → Owns (σ .table) n k × (at (run σ qs .table) k .nonce < σ .state .next)
+owns-old σ qs inv nr (itself {n = n} k) h =
+    let e : core (at (run σ qs .table) n) ≡ core (at (σ .table) n) = run-old σ qs inv nr n (omega arith) h in
+    (itself (subst (λ (x : Entry). x .kind ≡ 1) e k), h)
+owns-old σ qs inv nr (above {n = n} {m = i} l o) h =
+    let u : List ℕ = run σ qs .table in
+    let k : Link (at u n) (parent u n) = link (at u n) (parent u n) (l .holds) in
+    let e : core (at u n) ≡ core (at (σ .table) n) = run-old σ qs inv nr n (omega (arith, l .indirect)) h in
+    let up : parent u n .nonce < σ .state .next = omega arith in
+    let f : core (parent u n) ≡ core (at (σ .table) (parentNumber (at u n))) = run-old σ qs inv nr (parentNumber (at u n)) (k .full) up in
+    let ih = owns-old σ qs inv nr o up in
+    (above (linked-same (σ .table) u n e f l) (subst (λ (x : Entry). Owns (σ .table) (parentNumber x) i) e (ih .0)), ih .1)
+
+-- The revocation half. ρ is what reset left; A stands where the token was given, B before the revoke, C after it, D at the end.
+module _ (ρ : Machine) (inv₀ : Well ρ) (after qs : List Call) (nr : NoReset (after ++ qs)) (s t : ℕ) (lk : LockedFor (run ρ after) s t) (n : NoneCarries t qs)
+    (un : Unrevoked (run ρ after) qs s) (r : Call) (v : Revokes (r .request) s) (acc : Accepted (run ρ (after ++ qs)) r) (zs : List Call) (nz : NoReset zs)
+    (a b : List Call) (ab : a ++ b ≡ after ++ qs) (k : Name) (u : Under (run ρ a .table) (at (run ρ after .table) s) k)
+    (fr : List·Memᴰ k (issuedIn (run ρ a) (b ++ (r ∷ zs))) → ⊥) where
+  abbrev A : Machine
+  A = run ρ a
+
+  abbrev B : Machine
+  B = run ρ (after ++ qs)
+
+  abbrev C : Machine
+  C = step B r
+
+  abbrev D : Machine
+  D = run C zs
+
+  none-ab : NoReset a × NoReset b
+  none-ab = none-split a b (rw ab nr)
+
+  none-r : NotReset r
+  none-r i = no-reset (r .request) s v i
+
+  none-on : NoReset (b ++ (r ∷ zs))
+  none-on = none-append b (r ∷ zs) (none-ab .1) (none-r, nz)
+
+  A-inv : Well A
+  A-inv = run-well ρ a inv₀ (none-ab .0)
+
+  B-inv : Well B
+  B-inv = run-well ρ (after ++ qs) inv₀ nr
+
+  C-inv : Well C
+  C-inv = step-well B r B-inv none-r
+
+  -- B is a run from A, D a run from A, from B and from C
+  A→B : run A b ≡ B
+  A→B = sym (run-append ρ a b) ∙ ap (λ l. run ρ l) ab
+
+  A→D : run A (b ++ (r ∷ zs)) ≡ D
+  A→D = run-append A b (r ∷ zs) ∙ ap (λ σ. run (step σ r) zs) A→B
+
+  A-up-B : A .state .next ≤ B .state .next
+  A-up-B = subst (λ (σ : Machine). A .state .next ≤ σ .state .next) A→B (run-up A b A-inv (none-ab .1))
+
+  B-held : Held (run ρ after) B s t
+  B-held =
+      let parts = none-split after qs nr in
+      subst (λ (σ : Machine). Held (run ρ after) σ s t) (sym (run-append ρ after qs)) (lock-run (run ρ after) s t qs (run-well ρ after inv₀ (parts .0)) (parts .1) lk n un)
+
+  -- an entry of D that is older than A is the same in A, in B and in C
+  same-A : (i : ℕ) → at (D .table) i .kind ≢ 0 → at (D .table) i .nonce < A .state .next → core (at (D .table) i) ≡ core (at (A .table) i)
+  same-A = subst (λ (σ : Machine). (i : ℕ) → at (σ .table) i .kind ≢ 0 → at (σ .table) i .nonce < A .state .next → core (at (σ .table) i) ≡ core (at (A .table) i)) A→D (run-old A (b ++ (r ∷ zs)) A-inv none-on)
+
+  same-B : (i : ℕ) → at (D .table) i .kind ≢ 0 → at (D .table) i .nonce < B .state .next → core (at (D .table) i) ≡ core (at (B .table) i)
+  same-B = run-old B (r ∷ zs) B-inv (none-r, nz)
+
+  same-C : (i : ℕ) → at (D .table) i .kind ≢ 0 → at (D .table) i .nonce < C .state .next → core (at (D .table) i) ≡ core (at (C .table) i)
+  same-C = run-old C zs C-inv nz
+
+  -- the token's entry has not been issued since
+  young : at (D .table) (k .number) .kind ≢ 0 → at (D .table) (k .number) .tag ≡ k .tag → at (D .table) (k .number) .nonce < A .state .next
+  young f g = go (decLt (at (D .table) (k .number) .nonce) (A .state .next))
+    where
+      new : at (D .table) (k .number) .kind ≢ 0 → A .state .next ≤ at (D .table) (k .number) .nonce → List·Memᴰ (nameOf (k .number) (at (D .table) (k .number))) (issuedIn A (b ++ (r ∷ zs)))
+      new =
+          subst (λ (σ : Machine). at (σ .table) (k .number) .kind ≢ 0 → A .state .next ≤ at (σ .table) (k .number) .nonce → List·Memᴰ (nameOf (k .number) (at (σ .table) (k .number))) (issuedIn A (b ++ (r ∷ zs)))) A→D
+          (run-new A (b ++ (r ∷ zs)) A-inv none-on (k .number))
+
+      go : Dec (at (D .table) (k .number) .nonce < A .state .next) → at (D .table) (k .number) .nonce < A .state .next
+      go (yes i) = i
+      go (no i) = absurd (fr (subst (λ (x : ℕ). List·Memᴰ (record { number = k .number; tag = x }) (issuedIn A (b ++ (r ∷ zs)))) g (new f (omega arith))))
+
+  -- were its line live, its owner would be s as it was before the revoke
+  not-live : {i : ℕ} → Owns (D .table) (k .number) i → at (D .table) (k .number) .nonce < A .state .next → ⊥
+  not-live {i} o y =
+      let was : Owns (A .table) (k .number) i × (at (D .table) i .nonce < A .state .next) =
+      subst (λ (σ : Machine). Owns (σ .table) (k .number) i → at (σ .table) (k .number) .nonce < A .state .next → Owns (A .table) (k .number) i × (at (σ .table) i .nonce < A .state .next)) A→D
+      (owns-old A (b ++ (r ∷ zs)) A-inv none-on {n = k .number} {k = i}) o y in
+      let one : at (D .table) i .kind ≡ 1 = owner-direct o in
+      let e : i ≡ u .owner = owner-unique (was .0) (u .owns) in
+      let toA : core (at (D .table) i) ≡ core (at (A .table) i) = same-A i (omega arith) (was .1) in
+      let toB : core (at (D .table) i) ≡ core (at (B .table) i) = same-B i (omega arith) (omega (arith, A-up-B)) in
+      let toC : core (at (D .table) i) ≡ core (at (C .table) i) = same-C i (omega arith) (omega (arith, A-up-B, step-up B r B-inv none-r)) in
+      let his-A : In (at (A .table) i) (u .byte) = rw e (u .theirs) in
+      let his-B : In (at (B .table) i) (u .byte) = subst (λ (x : Entry). In x (u .byte)) (sym toA ∙ toB) his-A in
+      let ours-B : In (at (B .table) s) (u .byte) = subst (λ (x : Entry). In x (u .byte)) (sym (B-held .same)) (u .ours) in
+      let f : i ≡ s = B-inv .tiled i s (u .byte) (record { direct = subst (λ (x : Entry). x .kind ≡ 1) toB one; inside = his-B }) (record { direct = B-held .lock .direct; inside = ours-B }) in
+      let z : B .state .next ≤ at (C .table) i .nonce = rw f (revoke-nonce B s r B-inv (wipe B s r v acc)) in
+      omega (arith, z, A-up-B, was .1, ap (λ (x : Entry). x .nonce) toC)
+
+  still-open : (i : ℕ) → i ≡ k .number → at (D .table) i .kind ≢ 0 → at (D .table) i .tag ≡ k .tag → Live (lineOf (length (D .memory)) (D .table) i) → ⊥
+  still-open i e f g l =
+      not-live (subst (λ (j : ℕ). Owns (D .table) j (ownerOf (lineOf (length (D .memory)) (D .table) i))) e (walk-owns (suc (at (D .table) i .nonce)) (length (D .memory)) (D .table) i f l))
+      (young (subst (λ (j : ℕ). at (D .table) j .kind ≢ 0) e f) (subst (λ (j : ℕ). at (D .table) j .tag ≡ k .tag) e g))
+
+  shut-off : Closed D k
+  shut-off w token task buffer en et ok =
+      let q : Call = record { request = access w token task; buffer = buffer } in
+      let p = accepted D q ok .0 in
+      still-open (numberOf token) en
+      (neqb→ne (at (D .table) (numberOf token) .kind) 0 (search))
+      (eqb→eq (at (D .table) (numberOf token) .tag) (named token .tag) (search) ∙ et)
+      (search, search)
+
+-- ---- secrecy
+
+-- two copies that differ in the locked segment of entry s only, which e was
+record Twin (e : Entry) (s t : ℕ) (τ₁ τ₂ : Machine) : Type 0 where
+  alike : Alike e τ₁ τ₂
+  lock : LockedFor τ₁ s t
+  same : core (at (τ₁ .table) s) ≡ core e
+  inv : Well τ₁
+
+-- equal decisions, since no byte is looked at
+decided : (e : Entry) (τ₁ τ₂ : Machine) (q : Call) → Alike e τ₁ τ₂ → decision τ₁ q ≡ decision τ₂ q
+decided e τ₁ τ₂ q a i = decide (a .long i) (a .state i) (a .table i) (q .request) (q .buffer)
+
+dec-in : (e : Entry) (x : ℕ) → Dec (In e x)
+dec-in e x = go (decLe (e .base) x) (decLt x (e .base + e .length))
+  where
+    go : Dec (e .base ≤ x) → Dec (x < e .base + e .length) → Dec (In e x)
+    go (yes i) (yes j) = yes (i, j)
+    go (yes i) (no j) = no (λ h. j (h .1))
+    go (no i) j = no (λ h. i (h .0))
+
+module _ (e : Entry) (s t : ℕ) (τ₁ τ₂ : Machine) (tw : Twin e s t τ₁ τ₂) (q : Call) where
+  same : decision τ₁ q ≡ decision τ₂ q
+  same = decided e τ₁ τ₂ q (tw .alike)
+
+  -- the answers are the same if what is read is
+  same-answer : bufferAfter (decision τ₁ q .effect) (τ₁ .memory) (q .buffer) ≡ bufferAfter (decision τ₁ q .effect) (τ₂ .memory) (q .buffer) → answer τ₁ q ≡ answer τ₂ q
+  unfolding answer
+  same-answer h =
+      ap₂ (λ r b. record { reply = r; buffer = b }) (ap (λ (d : Decision). d .reply) same) (h ∙ ap (λ (d : Decision). bufferAfter (d .effect) (τ₂ .memory) (q .buffer)) same)
+
+  -- memories of equal length stay so
+  same-long : length (memoryAfter (decision τ₁ q .effect) (τ₁ .memory)) ≡ length (memoryAfter (decision τ₁ q .effect) (τ₂ .memory))
+  same-long = memory-long (decision τ₁ q .effect) (τ₁ .memory) ∙ tw .alike .long ∙ sym (memory-long (decision τ₁ q .effect) (τ₂ .memory))
+
+  -- a byte outside the segment
+  same-outside : (x : ℕ) → (In e x → ⊥) → getD (memoryAfter (decision τ₁ q .effect) (τ₁ .memory)) x 0 ≡ getD (memoryAfter (decision τ₁ q .effect) (τ₂ .memory)) x 0
+  same-outside x i = memory-agree (decision τ₁ q .effect) (τ₁ .memory) (τ₂ .memory) x (tw .alike .long) (tw .alike .outside x i)
+
+  -- a request of another task that is no accepted revoke of the segment
+  module _ (nr : NotReset q) (h : taskOf (q .request) ≢ t) (r : Spares τ₁ q s) where
+    g : Guard τ₁ s (decision τ₁ q)
+    g = guard τ₁ s t q (tw .inv) nr (tw .lock) h r
+
+    clear : (x : ℕ) → Touches (decision τ₁ q .effect) x → In e x → ⊥
+    clear x tc i = g .untouched x tc (subst (λ (y : Entry). In y x) (sym (tw .same)) i)
+
+    calm-answer : answer τ₁ q ≡ answer τ₂ q
+    calm-answer = same-answer (buffer-agree (decision τ₁ q .effect) (τ₁ .memory) (τ₂ .memory) (q .buffer) (tw .alike .long) (λ x tc. tw .alike .outside x (clear x tc)))
+
+    calm-alike : Alike e (step τ₁ q) (step τ₂ q)
+    unfolding step
+    calm-alike =
+        record {
+          state = ap (λ (d : Decision). d .state) same;
+          table = ap (λ (d : Decision). d .table) same;
+          long = same-long ∙ ap (λ (d : Decision). length (memoryAfter (d .effect) (τ₂ .memory))) same;
+          outside = λ x i. same-outside x i ∙ ap (λ (d : Decision). getD (memoryAfter (d .effect) (τ₂ .memory)) x 0) same;
+        }
+
+    calm : Twin e s t (step τ₁ q) (step τ₂ q)
+    calm = record { alike = calm-alike; lock = lock-step τ₁ s t q (tw .lock) g; same = core-step τ₁ s q g ∙ tw .same; inv = step-well τ₁ q (tw .inv) nr }
+
+    calm-keeps : (x : ℕ) → In e x → getD (step τ₁ q .memory) x 0 ≡ getD (τ₁ .memory) x 0
+    unfolding step
+    calm-keeps x i = memory-other (decision τ₁ q .effect) (τ₁ .memory) x (λ tc. clear x tc i)
+
+  -- the accepted revoke of the segment
+  module _ (v : Revokes (q .request) s) (a : Accepted τ₁ q) where
+    wp : Wipe τ₁ s q
+    wp = wipe τ₁ s q v a
+
+    effect-is : decision τ₁ q .effect ≡ store (e .base) (replicate (e .length) 0)
+    effect-is = ap (λ (d : Decision). d .effect) (wp .done) ∙ ap (λ (x : Entry). store (x .base) (replicate (x .length) 0)) (tw .same)
+
+    zero-inside : (m : List ℕ) (x : ℕ) → In e x → getD (memoryAfter (decision τ₁ q .effect) m) x 0 ≡ 0
+    zero-inside m x i = rw effect-is (zeros (e .length) m (e .base) x (i .0) (i .1))
+
+    wipe-answer : answer τ₁ q ≡ answer τ₂ q
+    wipe-answer = same-answer (rw effect-is refl)
+
+    wipe-memory : memoryAfter (decision τ₁ q .effect) (τ₁ .memory) ≡ memoryAfter (decision τ₁ q .effect) (τ₂ .memory)
+    wipe-memory = ext-getD 0 (memoryAfter (decision τ₁ q .effect) (τ₁ .memory)) (memoryAfter (decision τ₁ q .effect) (τ₂ .memory)) same-long (λ x l. go x (dec-in e x))
+      where
+        go : (x : ℕ) → Dec (In e x) → getD (memoryAfter (decision τ₁ q .effect) (τ₁ .memory)) x 0 ≡ getD (memoryAfter (decision τ₁ q .effect) (τ₂ .memory)) x 0
+        go x (yes i) = zero-inside (τ₁ .memory) x i ∙ sym (zero-inside (τ₂ .memory) x i)
+        go x (no i) = same-outside x i
+
+    -- the copies are one from then on
+    wipe-equal : step τ₁ q ≡ step τ₂ q
+    unfolding step
+    wipe-equal =
+        let memory : memoryAfter (decision τ₁ q .effect) (τ₁ .memory) ≡ memoryAfter (decision τ₂ q .effect) (τ₂ .memory) = wipe-memory ∙ ap (λ (d : Decision). memoryAfter (d .effect) (τ₂ .memory)) same in
+        λ i. record { state = same i .state; table = same i .table; memory = memory i }
+
+    wipe-zeros : take (e .length) (drop (e .base) (step τ₁ q .memory)) ≡ replicate (e .length) 0
+    unfolding step
+    wipe-zeros =
+        let whole = range (length (τ₁ .memory)) (at (τ₁ .table) s) (tw .inv .good s) (omega (arith, wp .direct)) in
+        let fit : e .base + e .length ≤ length (τ₁ .memory) = subst (λ (x : Entry). x .base + x .length ≤ length (τ₁ .memory)) (tw .same) (whole .1) in
+        all-zeros (memoryAfter (decision τ₁ q .effect) (τ₁ .memory)) (e .base) (e .length) (omega (arith, memory-long (decision τ₁ q .effect) (τ₁ .memory)))
+        (λ x i j. zero-inside (τ₁ .memory) x (i, j))
+
+alike-refl : (e : Entry) (σ : Machine) → Alike e σ σ
+alike-refl e σ = record { state = refl; table = refl; long = refl; outside = λ x i. refl }
+
+alike-sym : {e : Entry} {σ τ : Machine} → Alike e σ τ → Alike e τ σ
+alike-sym a = record { state = sym (a .state); table = sym (a .table); long = sym (a .long); outside = λ x i. sym (a .outside x i) }
+
+alike-trans : {e : Entry} {ρ σ τ : Machine} → Alike e ρ σ → Alike e σ τ → Alike e ρ τ
+alike-trans a b = record { state = a .state ∙ b .state; table = a .table ∙ b .table; long = a .long ∙ b .long; outside = λ x i. a .outside x i ∙ b .outside x i }
+
+-- while no revoke of the segment is accepted, the copies stay twins and each keeps its bytes of the segment
+record Kept (e : Entry) (s t : ℕ) (τ₁ σ₁ σ₂ : Machine) : Type 0 where
+  twin : Twin e s t σ₁ σ₂
+  bytes : (x : ℕ) → In e x → getD (σ₁ .memory) x 0 ≡ getD (τ₁ .memory) x 0
+
+twin-run : (e : Entry) (s t : ℕ) (τ₁ τ₂ : Machine) (qs : List Call) → Twin e s t τ₁ τ₂ → NoReset qs → NoneCarries t qs → Unrevoked τ₁ qs s → Kept e s t τ₁ (run τ₁ qs) (run τ₂ qs)
+twin-run e s t τ₁ τ₂ [] tw nr n u = record { twin = tw; bytes = λ x i. refl }
+twin-run e s t τ₁ τ₂ (q ∷ qs) tw nr n u =
+    let k : Kept e s t (step τ₁ q) (run (step τ₁ q) qs) (run (step τ₂ q) qs) =
+    twin-run e s t (step τ₁ q) (step τ₂ q) qs (calm e s t τ₁ τ₂ tw q (nr .0) (n .0) (u .0)) (nr .1) (n .1) (u .1) in
+    record { twin = k .twin; bytes = λ x i. k .bytes x i ∙ calm-keeps e s t τ₁ τ₂ tw q (nr .0) (n .0) (u .0) x i }
+
+-- the answers are the same, and the copies agree outside the segment, revoked or not
+record Same (e : Entry) (τ₁ τ₂ : Machine) (qs : List Call) : Type 0 where
+  said : answers τ₁ qs ≡ answers τ₂ qs
+  left : Alike e (run τ₁ qs) (run τ₂ qs)
+
+same-run : (e : Entry) (s t : ℕ) (τ₁ τ₂ : Machine) (qs : List Call) → Twin e s t τ₁ τ₂ → NoReset qs → NoneCarries t qs → Same e τ₁ τ₂ qs
+same-run e s t τ₁ τ₂ [] tw nr n = record { said = refl; left = tw .alike }
+same-run e s t τ₁ τ₂ (q ∷ qs) tw nr n =
+    go (λ r. same-run e s t (step τ₁ q) (step τ₂ q) qs (calm e s t τ₁ τ₂ tw q (nr .0) (n .0) r) (nr .1) (n .1)) (as-revoke (q .request) s) (turned τ₁ q)
+  where
+    next : answer τ₁ q ≡ answer τ₂ q → Same e (step τ₁ q) (step τ₂ q) qs → Same e τ₁ τ₂ (q ∷ qs)
+    next a k = record { said = ap₂ (λ x y. x ∷ y) a (k .said); left = k .left }
+
+    other : (Spares τ₁ q s → Same e (step τ₁ q) (step τ₂ q) qs) → Spares τ₁ q s → Same e τ₁ τ₂ (q ∷ qs)
+    other f r = next (calm-answer e s t τ₁ τ₂ tw q (nr .0) (n .0) r) (f r)
+
+    go : (Spares τ₁ q s → Same e (step τ₁ q) (step τ₂ q) qs) → Revoke (q .request) s → Turned τ₁ q → Same e τ₁ τ₂ (q ∷ qs)
+    go f (isnt v) k = other f (λ w a. v w)
+    go f (is k c i n) (taken a p d) =
+        let v : Revokes (q .request) s = rw i n in
+        next (wipe-answer e s t τ₁ τ₂ tw q v a)
+        (subst (λ (σ : Machine). Same e (step τ₁ q) σ qs) (wipe-equal e s t τ₁ τ₂ tw q v a) (record { said = refl; left = alike-refl e (run (step τ₁ q) qs) }))
+    go f (is k c x n) (away i j l na) = other f (λ w a. na a)
+
+-- what is accepted in one copy is accepted in the other
+accepted-same : (e : Entry) (τ₁ τ₂ : Machine) (q : Call) → Alike e τ₁ τ₂ → Accepted τ₁ q → Accepted τ₂ q
+unfolding answer
+accepted-same e τ₁ τ₂ q a h = subst (λ (d : Decision). d .reply .refusal ≡ 0) (decided e τ₁ τ₂ q a) h
+
+unrevoked-same : (e : Entry) (s t : ℕ) (τ₁ τ₂ : Machine) (qs : List Call) → Twin e s t τ₁ τ₂ → NoReset qs → NoneCarries t qs → Unrevoked τ₁ qs s → Unrevoked τ₂ qs s
+unrevoked-same e s t τ₁ τ₂ [] tw nr n u = tt
+unrevoked-same e s t τ₁ τ₂ (q ∷ qs) tw nr n u = (
+  (λ v a. u .0 v (accepted-same e τ₂ τ₁ q (alike-sym (tw .alike)) a)),
+  unrevoked-same e s t (step τ₁ q) (step τ₂ q) qs (calm e s t τ₁ τ₂ tw q (nr .0) (n .0) (u .0)) (nr .1) (n .1) (u .1),
+)
+
+-- ---- the whole
+
+-- a copy of σ, and another, as twins
+twins : (σ : Machine) (s t : ℕ) (τ₁ τ₂ : Machine) → Well σ → LockedFor σ s t → Alike (at (σ .table) s) σ τ₁ → Alike (at (σ .table) s) σ τ₂ → Twin (at (σ .table) s) s t τ₁ τ₂
+twins σ s t τ₁ τ₂ inv lk a b =
+    record {
+      alike = alike-trans (alike-sym a) b;
+      lock = record { direct = subst (λ (u : List ℕ). at u s .kind ≡ 1) (a .table) (lk .direct); locked = subst (λ (u : List ℕ). at u s .locked ≡ true) (a .table) (lk .locked); held = subst (λ (u : List ℕ). at u s .holder ≡ t) (a .table) (lk .held) };
+      same = ap (λ (u : List ℕ). core (at u s)) (sym (a .table));
+      inv = rw (a .long, a .state, a .table) at inv;
+    }
+
+-- what was given by a request of the whole list, the reset in front, was given in a run from what reset left
+record From (σ : Machine) (first : Call) (l a : List Call) (q : Call) (b : List Call) : Type 0 where
+  way : List Call
+  comes : run (step σ first) way ≡ step (run σ a) q
+  all : way ++ b ≡ l
+
+from : (σ : Machine) (first : Call) (l a : List Call) (q : Call) (b : List Call) → a ++ (q ∷ b) ≡ first ∷ l → From σ first l a q b
+from σ first l [] q b e =
+    let head : q ≡ first = cc in
+    record { way = []; comes = ap (λ (x : Call). step σ x) (sym head); all = cc }
+from σ first l (c ∷ a) q b e =
+    let head : c ≡ first = cc in
+    let tail : a ++ (q ∷ b) ≡ l = cc in
+    record {
+      way = a ++ (q ∷ []);
+      comes = run-append (step σ first) a (q ∷ []) ∙ ap (λ (x : Call). step (run (step σ x) a) q) (sym head);
+      all = append-assoc a (q ∷ []) b ∙ tail;
+    }
+
+pub demand3 : Demand3
+unfolding Demand3
+demand3 σ k0 k1 ν buffer ok after nr s t lk τ₁ τ₂ a b qs nq nc =
+    record {
+      same = same-run e s t τ₁ τ₂ qs tw nq nc .said;
+      alike = same-run e s t τ₁ τ₂ qs tw nq nc .left;
+      kept = λ u. twin-run e s t τ₁ τ₂ qs tw nq nc u .bytes;
+      wiped = λ r f. wipe-zeros e s t (run τ₁ qs) (run τ₂ qs) (twin-run e s t τ₁ τ₂ qs tw nq nc (f .before) .twin) r (f .names) (f .accepted);
+      closed = λ r f zs nz x q y xy k given u fr.
+          let tr : Twin e s t (run τ₁ qs) (run (run ρ after) qs) = twin-run e s t τ₁ (run ρ after) qs ts nq nc (f .before) .twin in
+          let there : run ρ (after ++ qs) ≡ run (run ρ after) qs = run-append ρ after qs in
+          let acc : Accepted (run ρ (after ++ qs)) r = rw there (accepted-same e (run τ₁ qs) (run (run ρ after) qs) r (tr .alike) (f .accepted)) in
+          let one : step (run τ₁ qs) r ≡ step (run ρ (after ++ qs)) r = rw there (wipe-equal e s t (run τ₁ qs) (run (run ρ after) qs) tr r (f .names) (f .accepted)) in
+          let w : From σ first (after ++ qs) x q y = from σ first (after ++ qs) x q y xy in
+          rw one
+          (shut-off ρ inv₀ after qs (none-append after qs nr nq) s t lk nc (unrevoked-same e s t τ₁ (run ρ after) qs ts nq nc (f .before)) r (f .names) acc zs nz
+          (w .way) y (w .all) k (rw (w .comes) u) (rw (w .comes) fr));
+    }
+  where
+    first : Call
+    first = resetCall k0 k1 ν buffer
+
+    ρ : Machine
+    ρ = step σ first
+
+    e : Entry
+    e = at (run ρ after .table) s
+
+    inv₀ : Well ρ
+    inv₀ = well-reset σ k0 k1 ν buffer ok
+
+    inv : Well (run ρ after)
+    inv = run-well ρ after inv₀ nr
+
+    tw : Twin e s t τ₁ τ₂
+    tw = twins (run ρ after) s t τ₁ τ₂ inv lk a b
+
+    ts : Twin e s t τ₁ (run ρ after)
+    ts = twins (run ρ after) s t τ₁ (run ρ after) inv lk a (alike-refl e (run ρ after))
