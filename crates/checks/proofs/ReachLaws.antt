@@ -19,7 +19,7 @@ use Rattle.machine.specs.Steps.{pass, stop, verdict}
 use Rattle.machine.specs.Stops.{Check, entryNamed, lineAlive, lineFormed, live, lockOpen, reachable}
 use Rattle.checks.specs.Holds.{namedHolds}
 use Rattle.checks.specs.Answers.{liveVerdict, reachVerdict}
-use Rattle.checks.proofs.VerdictLaws.{andThen, passes, stops, verdict-append}
+use Rattle.checks.proofs.VerdictLaws.{andThen, passed, passes, stops, verdict-append}
 
 -- ---- place 2
 
@@ -76,3 +76,11 @@ module _ (m : ℕ) (t : List ℕ) (k : ℕ) where
     pub reach-open : (o : ℕ) (e : Entry) → liveVerdict m t k ≡ pass → lineOf m t (numberOf k) ≡ owner o → e ≡ at t o
         → (e .locked && not (eqb (e .holder) u)) ≡ false → reachVerdict m t k u ≡ pass
     reach-open o e h l q z = lock o e h l q ∙ rw z
+
+-- ---- what a token that passes says
+
+pub live-in : (m : ℕ) (t : List ℕ) (k : ℕ) → liveVerdict m t k ≡ pass → 32 * numberOf k + 32 ≤ length t
+unfolding liveVerdict size
+live-in m t k h =
+    let i : numberOf k < length t / 32 = ltb-true _ _ (passed (live m t k) h .0) in
+    omega arith

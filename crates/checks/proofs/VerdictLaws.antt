@@ -4,6 +4,7 @@ use mathlib.Core.Path.{_≡_, refl, sym, _∙_, ap, ap₂}
 use mathlib.Core.Bool.{Bool, true, false, _&&_, cond}
 use mathlib.Core.List.{List, [], _∷_, _++_}
 use Prim.Native.Nat.{ℕ}
+use native.Mathlib.Omega.{arith}
 use lib.Dec.{T, eqb, eqb→eq}
 use Rattle.machine.specs.Steps.{pass, stop, Verdict, verdict}
 use Rattle.machine.specs.Stops.{Check}
@@ -49,3 +50,35 @@ stops r cs ds u h = verdict-append cs ds ∙ ap (λ v. andThen v (verdict ds)) (
 
 pub passes : (r : ℕ) (cs ds : List Check) → T (uniform r cs) → allHold cs ≡ true → verdict (cs ++ ds) ≡ verdict ds
 passes r cs ds u h = verdict-append cs ds ∙ ap (λ v. andThen v (verdict ds)) (together r true cs u ∙ ap (λ b. cond b pass (stop r 0)) h)
+
+-- the checks of a request: place 1, then a token's places, then the rest
+module _ (xs ys zs : List Check) (u : T (uniform 1 xs)) where
+  pub first-stops : allHold xs ≡ false → verdict ((xs ++ ys) ++ zs) ≡ stop 1 0
+  first-stops h = verdict-append (xs ++ ys) zs ∙ ap (λ v. andThen v (verdict zs)) (stops 1 xs ys u h)
+
+  pub token-stops : (r p : ℕ) → allHold xs ≡ true → verdict ys ≡ stop r p → verdict ((xs ++ ys) ++ zs) ≡ stop r p
+  token-stops r p h g = verdict-append (xs ++ ys) zs ∙ ap (λ v. andThen v (verdict zs)) (passes 1 xs ys u h ∙ g)
+
+  pub token-passes : allHold xs ≡ true → verdict ys ≡ pass → verdict ((xs ++ ys) ++ zs) ≡ verdict zs
+  token-passes h g = verdict-append (xs ++ ys) zs ∙ ap (λ v. andThen v (verdict zs)) (passes 1 xs ys u h ∙ g)
+
+-- a list that passes passes in each part
+andThen-pass : (v w : Verdict) → andThen v w ≡ pass → (v ≡ pass) × (w ≡ pass)
+andThen-pass pass w h = (refl, h)
+andThen-pass (stop r p) w h = let z : _≡_ {A = ℕ} 0 1 = cc in absurd (omega arith)
+
+pub parts-pass : (cs ds : List Check) → verdict (cs ++ ds) ≡ pass → (verdict cs ≡ pass) × (verdict ds ≡ pass)
+parts-pass cs ds h = andThen-pass (verdict cs) (verdict ds) (sym (verdict-append cs ds) ∙ h)
+
+-- a list that passes has every check hold
+abbrev pub Passed : List Check → Type 0
+Passed [] = Unit {0}
+Passed (c ∷ cs) = (c .holds ≡ true) × Passed cs
+
+pub passed : (cs : List Check) → verdict cs ≡ pass → Passed cs
+passed [] h = tt
+passed (c ∷ cs) h = go (c .holds) (passed cs) h
+  where
+    go : (b : Bool) → (verdict cs ≡ pass → Passed cs) → cond b (verdict cs) (stop (c .refusal) (c .place)) ≡ pass → (b ≡ true) × Passed cs
+    go true f h = (refl, f h)
+    go false f h = let z : _≡_ {A = ℕ} 0 1 = cc in absurd (omega arith)

@@ -1,0 +1,2 @@
+pub mod CloneLaws
+pub mod RulingLaws

@@ -1,0 +1,35 @@
+-- A request is decided by its verdict.
+-- Assumes nothing.
+use mathlib.Core.Path.{_≡_, refl, sym, _∙_, ap}
+use mathlib.Core.List.{List, []}
+use Prim.Native.Nat.{ℕ}
+use Rattle.checks.specs.Answers.{stopAs}
+use Rattle.checks.specs.declared.answer.Refusal.{Refusal}
+use Rattle.machine.specs.Parts as parts
+use Rattle.machine.specs.Requests.{Request}
+use Rattle.machine.specs.Steps.{decide, pass, settle, Verdict}
+use Rattle.operations.specs.Rulings.{checkedAs, decided, granting, handed, refusing, ruled, Ruling, stateAs, verdictOn}
+use Rattle.operations.specs.declared.answer.Checked.{Checked}
+use Rattle.operations.specs.declared.answer.Checked.the-variants.{Pass, Stop}
+use Rattle.operations.specs.declared.answer.Served.{Served}
+use Rattle.operations.specs.declared.answer.State.{State}
+
+-- the verdict, where the code's checks come to r, of which k is a case
+module _ (m : ℕ) (s : parts.State) (t : List ℕ) (q : Request) (b : List ℕ) (r : Checked) (is : checkedAs r ≡ verdictOn m s t q b) where
+  pub verdict-stop : (why : Refusal) → r ≡ Stop why → verdictOn m s t q b ≡ stopAs why
+  verdict-stop why h = sym is ∙ ap checkedAs h
+
+  pub verdict-pass : r ≡ Pass → verdictOn m s t q b ≡ pass
+  verdict-pass h = sym is ∙ ap checkedAs h
+
+pub by-verdict : (m : ℕ) (s : parts.State) (t : List ℕ) (q : Request) (b : List ℕ) (v : Verdict) → verdictOn m s t q b ≡ v → decided m s t q b ≡ ruled (settle v m s t q b)
+unfolding decided decide verdictOn
+by-verdict m s t q b v h = ap (λ (v : Verdict). ruled (settle v m s t q b)) h
+
+pub decided-stop : (m : ℕ) (s : State) (t : List ℕ) (q : Request) (b : List ℕ) (why : Refusal) (r : Served) → r ≡ refusing s why → verdictOn m (stateAs s) t q b ≡ stopAs why
+    → handed r t ≡ decided m (stateAs s) t q b
+decided-stop m s t q b why r e h = ap (λ (r : Served). handed r t) e ∙ sym (by-verdict m (stateAs s) t q b (stopAs why) h)
+
+pub decided-pass : (m : ℕ) (s : parts.State) (t : List ℕ) (q : Request) (b : List ℕ) (x : Ruling) → x ≡ granting m s t q b → verdictOn m s t q b ≡ pass → x ≡ decided m s t q b
+unfolding granting
+decided-pass m s t q b x e h = e ∙ sym (by-verdict m s t q b pass h)

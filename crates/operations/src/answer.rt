@@ -1,0 +1,59 @@
+// The state, and what an operation hands back.
+use checks::answer::Refusal;
+ghost use mathlib.Core.Path.{_≡_};
+ghost use Rattle.operations.specs.Rulings as ruling;
+
+// The key, the last number given and the next nonce. Each operation takes the state by value and
+// hands it back.
+pub struct State {
+    pub key0: u64,
+    pub key1: u64,
+    pub last: u64,
+    pub next: u64,
+}
+
+// A granted request has tokens (zero where it gives none) and drop's number.
+pub enum Answer {
+    Granted {
+        first: u64,
+        second: u64,
+        dropped: u64,
+    },
+    Refused(Refusal),
+}
+
+// The state beside the answer.
+pub struct Served {
+    pub state: State,
+    pub answer: Answer,
+}
+
+// What the checks of a request come to.
+pub enum Checked {
+    Stop(Refusal),
+    Pass,
+}
+
+// A refusal hands the state back as it was.
+pub fn refused(s: State, why: Refusal) -> Served
+    ensures { λ r. ⌜ r ≡ ruling.refusing s why ⌝ }
+{
+    Served {
+        state: s,
+        answer: Answer::Refused(why),
+    }
+}
+
+// A granted request that gives no token.
+pub fn plain(s: State, dropped: u64) -> Served
+    ensures { λ r. ⌜ r ≡ ruling.plainly s dropped ⌝ }
+{
+    Served {
+        state: s,
+        answer: Answer::Granted {
+            first: 0,
+            second: 0,
+            dropped,
+        },
+    }
+}
