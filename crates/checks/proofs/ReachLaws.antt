@@ -19,7 +19,7 @@ use Rattle.machine.specs.Steps.{pass, stop, verdict}
 use Rattle.machine.specs.Stops.{Check, entryNamed, lineAlive, lineFormed, live, lockOpen, reachable}
 use Rattle.checks.specs.Holds.{namedHolds}
 use Rattle.checks.specs.Answers.{liveVerdict, reachVerdict}
-use Rattle.checks.proofs.VerdictLaws.{andThen, passed, passes, stops, verdict-append}
+use Rattle.checks.proofs.VerdictLaws.{andThen, parts-pass, passed, passes, stops, verdict-append}
 
 -- ---- place 2
 
@@ -84,3 +84,10 @@ unfolding liveVerdict size
 live-in m t k h =
     let i : numberOf k < length t / 32 = ltb-true _ _ (passed (live m t k) h .0) in
     omega arith
+
+pub reach-is-live : (m : ℕ) (t : List ℕ) (k u : ℕ) → reachVerdict m t k u ≡ pass → liveVerdict m t k ≡ pass
+unfolding reachVerdict liveVerdict
+reach-is-live m t k u h = parts-pass (live m t k) (lockOpen m t k u ∷ []) h .0
+
+pub reach-in : (m : ℕ) (t : List ℕ) (k u : ℕ) → reachVerdict m t k u ≡ pass → 32 * numberOf k + 32 ≤ length t
+reach-in m t k u h = live-in m t k (reach-is-live m t k u h)

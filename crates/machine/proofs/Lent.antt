@@ -98,7 +98,7 @@ EffectFits m b nothing = Unit {0}
 EffectFits m b (load a n) = (a + n ≤ m) × (n ≡ length b)
 EffectFits m b (store a bs) = AllBytes b → AllBytes bs
 
-access-inside : (m : ℕ) (s : State) (t : List ℕ) (w : Way) (k u : ℕ) (b : List ℕ) → Passed (checks m s t (access w k u) b) → namedEntry t k .base + named k .offset + length b ≤ m
+pub access-inside : (m : ℕ) (s : State) (t : List ℕ) (w : Way) (k u : ℕ) (b : List ℕ) → Passed (checks m s t (access w k u) b) → namedEntry t k .base + named k .offset + length b ≤ m
 access-inside m s t w k u b h =
     let e : Entry = namedEntry t k in
     let full : e .kind ≢ 0 = eqb-false (e .kind) 0 (not-true (eqb (e .kind) 0) (search)) in

@@ -1,2 +1,4 @@
+pub mod AccessLaws
 pub mod CloneLaws
+pub mod PartLaws
 pub mod RulingLaws

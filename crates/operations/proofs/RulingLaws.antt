@@ -5,10 +5,11 @@ use mathlib.Core.List.{List, []}
 use Prim.Native.Nat.{ℕ}
 use Rattle.checks.specs.Answers.{stopAs}
 use Rattle.checks.specs.declared.answer.Refusal.{Refusal}
+use Rattle.machine.specs.Operations.{grant, nothing}
 use Rattle.machine.specs.Parts as parts
 use Rattle.machine.specs.Requests.{Request}
 use Rattle.machine.specs.Steps.{decide, pass, settle, Verdict}
-use Rattle.operations.specs.Rulings.{checkedAs, decided, granting, handed, refusing, ruled, Ruling, stateAs, verdictOn}
+use Rattle.operations.specs.Rulings.{checkedAs, decided, effectOn, granting, handed, refusing, ruled, Ruling, stateAs, verdictOn}
 use Rattle.operations.specs.declared.answer.Checked.{Checked}
 use Rattle.operations.specs.declared.answer.Checked.the-variants.{Pass, Stop}
 use Rattle.operations.specs.declared.answer.Served.{Served}
@@ -33,3 +34,12 @@ decided-stop m s t q b why r e h = ap (λ (r : Served). handed r t) e ∙ sym (b
 pub decided-pass : (m : ℕ) (s : parts.State) (t : List ℕ) (q : Request) (b : List ℕ) (x : Ruling) → x ≡ granting m s t q b → verdictOn m s t q b ≡ pass → x ≡ decided m s t q b
 unfolding granting
 decided-pass m s t q b x e h = e ∙ sym (by-verdict m s t q b pass h)
+
+-- the effect of a request that is refused, and of one that is granted
+pub effect-stop : (m : ℕ) (s : parts.State) (t : List ℕ) (q : Request) (b : List ℕ) (why : Refusal) → verdictOn m s t q b ≡ stopAs why → effectOn m s t q b ≡ nothing
+unfolding effectOn decide verdictOn
+effect-stop m s t q b why h = ap (λ (v : Verdict). settle v m s t q b .effect) h
+
+pub effect-pass : (m : ℕ) (s : parts.State) (t : List ℕ) (q : Request) (b : List ℕ) → verdictOn m s t q b ≡ pass → effectOn m s t q b ≡ grant m s t q b .effect
+unfolding effectOn decide verdictOn
+effect-pass m s t q b h = ap (λ (v : Verdict). settle v m s t q b .effect) h

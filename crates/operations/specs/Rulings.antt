@@ -4,7 +4,7 @@ use mathlib.Core.List.{List}
 use Prim.Native.Nat.{ℕ}
 use Rattle.checks.specs.Answers.{refusalNumber, refusalPlace, stopAs}
 use Rattle.checks.specs.declared.answer.Refusal.{Refusal}
-use Rattle.machine.specs.Operations.{Decision, grant, granted, Reply}
+use Rattle.machine.specs.Operations.{Decision, Effect, grant, granted, Reply}
 use Rattle.machine.specs.Parts as parts
 use Rattle.machine.specs.Requests.{Request}
 use Rattle.machine.specs.Steps.{decide, pass, Verdict, verdict}
@@ -45,6 +45,10 @@ granting m s t q b = ruled (grant m s t q b)
 
 unfoldable pub decided : ℕ → parts.State → List ℕ → Request → List ℕ → Ruling
 decided m s t q b = ruled (decide m s t q b)
+
+-- what a decision does to memory and buffer
+unfoldable pub effectOn : ℕ → parts.State → List ℕ → Request → List ℕ → Effect
+effectOn m s t q b = decide m s t q b .effect
 
 abbrev pub handed : Served → List ℕ → Ruling
 handed r t = record { state = stateAs (r .state); table = t; reply = replyAs (r .answer) }
