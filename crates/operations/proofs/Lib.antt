@@ -1,4 +1,5 @@
 pub mod AccessLaws
 pub mod CloneLaws
 pub mod PartLaws
+pub mod ResetLaws
 pub mod RulingLaws

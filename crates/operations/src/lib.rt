@@ -2,4 +2,5 @@
 pub mod access;
 pub mod answer;
 pub mod clone;
+pub mod reset;
 pub mod token;
