@@ -3,3 +3,4 @@ pub mod CloneLaws
 pub mod PartLaws
 pub mod ResetLaws
 pub mod RulingLaws
+pub mod TurnLaws

@@ -3,4 +3,5 @@ pub mod access;
 pub mod answer;
 pub mod clone;
 pub mod reset;
+pub mod serve;
 pub mod token;
