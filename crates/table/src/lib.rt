@@ -1,4 +1,5 @@
-// The table: entries by number, the line of an entry, new numbers and issues.
+// The table: entries by number, the line of an entry, new numbers and issues; and parts of memory.
+pub mod bytes;
 pub mod entries;
 pub mod issue;
 pub mod line;
