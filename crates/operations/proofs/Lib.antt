@@ -1,2 +1,3 @@
 pub mod CloneLaws
+pub mod LockLaws
 pub mod RulingLaws

@@ -1,1 +1,2 @@
+pub mod Locks
 pub mod Rulings
