@@ -1,6 +1,6 @@
 -- Places 2 to 5: a law for each way out.
 -- Assumes nothing.
-use mathlib.Core.Path.{_≡_, refl, sym, _∙_, ap}
+use mathlib.Core.Path.{_≡_, refl, sym, _∙_, ap, subst}
 use mathlib.Core.Bool.{Bool, true, false, not, _&&_, cond}
 use mathlib.Core.List.{List, [], _∷_, _++_}
 use Prim.Native.Nat.{ℕ, _+_, _*_, _/_, _≤_, _<_}
@@ -15,11 +15,12 @@ use Rattle.layout.proofs.TestLaws.{both}
 use Rattle.machine.specs.Line.{dead, ill, Line, lineOf, owner, whose}
 use Rattle.machine.specs.Operations.{numberOf}
 use Rattle.machine.specs.Parts.{at, size}
-use Rattle.machine.specs.Steps.{pass, stop, verdict}
+use Rattle.machine.specs.Steps.{pass, stop, Verdict, verdict}
 use Rattle.machine.specs.Stops.{Check, entryNamed, lineAlive, lineFormed, live, lockOpen, reachable}
 use Rattle.checks.specs.Holds.{namedHolds}
-use Rattle.checks.specs.Answers.{liveVerdict, reachVerdict}
+use Rattle.checks.specs.Answers.{liveVerdict, reachVerdict, Reaches}
 use Rattle.checks.proofs.VerdictLaws.{andThen, parts-pass, passed, passes, stops, verdict-append}
+use Rattle.checks.specs.declared.reach.Reached.{Reached}
 
 -- ---- place 2
 
@@ -91,3 +92,6 @@ reach-is-live m t k u h = parts-pass (live m t k) (lockOpen m t k u ∷ []) h .0
 
 pub reach-in : (m : ℕ) (t : List ℕ) (k u : ℕ) → reachVerdict m t k u ≡ pass → 32 * numberOf k + 32 ≤ length t
 reach-in m t k u h = live-in m t k (reach-is-live m t k u h)
+-- what a token came to is known of a verdict that is the same
+pub reaches-as : (t : List ℕ) (r : Reached) (l : Line) (v w : Verdict) → w ≡ v → Reaches t r v l → Reaches t r w l
+reaches-as t r l v w e h = subst (λ (x : Verdict). Reaches t r x l) (sym e) h

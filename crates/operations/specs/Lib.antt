@@ -1,3 +1,4 @@
+pub mod Locks
 pub mod Rulings
 pub mod Turns
 pub mod Ways

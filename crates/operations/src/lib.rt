@@ -2,6 +2,7 @@
 pub mod access;
 pub mod answer;
 pub mod clone;
+pub mod lock;
 pub mod reset;
 pub mod serve;
 pub mod token;
