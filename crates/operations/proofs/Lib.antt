@@ -1,2 +1,6 @@
+pub mod AllotLaws
+pub mod ChildLaws
 pub mod CloneLaws
+pub mod DeriveLaws
+pub mod ExecuteOnlyLaws
 pub mod RulingLaws

@@ -1,1 +1,3 @@
+pub mod Allotments
+pub mod Children
 pub mod Rulings
