@@ -1,5 +1,9 @@
 pub mod AccessLaws
+pub mod AllotLaws
+pub mod ChildLaws
 pub mod CloneLaws
+pub mod DeriveLaws
+pub mod ExecuteOnlyLaws
 pub mod LockLaws
 pub mod PartLaws
 pub mod ResetLaws

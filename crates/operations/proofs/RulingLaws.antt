@@ -10,6 +10,9 @@ use Rattle.machine.specs.Parts as parts
 use Rattle.machine.specs.Requests.{Request}
 use Rattle.machine.specs.Steps.{decide, pass, settle, Verdict}
 use Rattle.operations.specs.Rulings.{checkedAs, decided, effectOn, granting, handed, refusing, ruled, Ruling, stateAs, verdictOn}
+use Rattle.checks.proofs.VerdictLaws.{Passed, passed}
+use Rattle.machine.specs.Parts as parts
+use Rattle.machine.specs.Stops.{checks}
 use Rattle.operations.specs.declared.answer.Checked.{Checked}
 use Rattle.operations.specs.declared.answer.Checked.the-variants.{Pass, Stop}
 use Rattle.operations.specs.declared.answer.Served.{Served}
@@ -43,3 +46,7 @@ effect-stop m s t q b why h = ap (λ (v : Verdict). settle v m s t q b .effect) 
 pub effect-pass : (m : ℕ) (s : parts.State) (t : List ℕ) (q : Request) (b : List ℕ) → verdictOn m s t q b ≡ pass → effectOn m s t q b ≡ grant m s t q b .effect
 unfolding effectOn decide verdictOn
 effect-pass m s t q b h = ap (λ (v : Verdict). settle v m s t q b .effect) h
+-- a request that passes has every check hold
+pub passed-on : (m : ℕ) (s : parts.State) (t : List ℕ) (q : Request) (b : List ℕ) → verdictOn m s t q b ≡ pass → Passed (checks m s t q b)
+unfolding verdictOn
+passed-on m s t q b h = passed (checks m s t q b) h

@@ -1,3 +1,5 @@
+pub mod Allotments
+pub mod Children
 pub mod Locks
 pub mod Rulings
 pub mod Turns

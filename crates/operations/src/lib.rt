@@ -1,7 +1,12 @@
 // The operations of the northbridge: methods of its state over the table and the memory.
 pub mod access;
+pub mod allot;
 pub mod answer;
+pub mod child;
 pub mod clone;
+pub mod derive;
+pub mod execute_only;
+pub mod issue;
 pub mod lock;
 pub mod reset;
 pub mod serve;
