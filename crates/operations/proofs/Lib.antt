@@ -1,2 +1,3 @@
 pub mod CloneLaws
+pub mod DropLaws
 pub mod RulingLaws

@@ -1,4 +1,5 @@
 // The operations of the northbridge: methods of its state over the table and the memory.
 pub mod answer;
 pub mod clone;
+pub mod drop;
 pub mod token;
