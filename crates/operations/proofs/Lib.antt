@@ -3,6 +3,7 @@ pub mod AllotLaws
 pub mod ChildLaws
 pub mod CloneLaws
 pub mod DeriveLaws
+pub mod DropLaws
 pub mod ExecuteOnlyLaws
 pub mod LockLaws
 pub mod PartLaws

@@ -5,6 +5,7 @@ pub mod answer;
 pub mod child;
 pub mod clone;
 pub mod derive;
+pub mod drop;
 pub mod execute_only;
 pub mod issue;
 pub mod lock;
