@@ -46,6 +46,7 @@ effect-stop m s t q b why h = ap (λ (v : Verdict). settle v m s t q b .effect) 
 pub effect-pass : (m : ℕ) (s : parts.State) (t : List ℕ) (q : Request) (b : List ℕ) → verdictOn m s t q b ≡ pass → effectOn m s t q b ≡ grant m s t q b .effect
 unfolding effectOn decide verdictOn
 effect-pass m s t q b h = ap (λ (v : Verdict). settle v m s t q b .effect) h
+
 -- a request that passes has every check hold
 pub passed-on : (m : ℕ) (s : parts.State) (t : List ℕ) (q : Request) (b : List ℕ) → verdictOn m s t q b ≡ pass → Passed (checks m s t q b)
 unfolding verdictOn
