@@ -7,16 +7,17 @@ use Prim.Native.Nat.{ℕ, _+_, _*_, _/_, _≤_, _<_}
 use native.Mathlib.Omega.{arith}
 use lib.Dec.{eqb, ltb}
 use lib.ListN.{length}
-use borrow.Author.Tests.{le-ltb, lt-ltb, ltb-true}
+use borrow.Author.Tests.{eqb-false, le-ltb, lt-ltb, ltb-true, not-true}
 use Rattle.layout.specs.Token.{named}
 use Rattle.layout.specs.declared.entry.Entry.{Entry}
 use Rattle.layout.specs.declared.token.Named.{Named}
 use Rattle.layout.proofs.TestLaws.{both}
-use Rattle.machine.specs.Line.{dead, ill, Line, lineOf, owner, whose}
+use Rattle.machine.specs.Line.{dead, ill, isIll, Line, lineOf, owner, whose}
 use Rattle.machine.specs.Operations.{numberOf}
 use Rattle.machine.specs.Parts.{at, size}
 use Rattle.machine.specs.Steps.{pass, stop, Verdict, verdict}
 use Rattle.machine.specs.Stops.{Check, entryNamed, lineAlive, lineFormed, live, lockOpen, reachable}
+use Rattle.machine.proofs.Lent.{formed-inside, line-formed}
 use Rattle.checks.specs.Holds.{namedHolds}
 use Rattle.checks.specs.Answers.{liveVerdict, Reaches, reachVerdict}
 use Rattle.checks.specs.declared.reach.Reached.{Reached}
@@ -85,6 +86,11 @@ unfolding liveVerdict size
 live-in m t k h =
     let i : numberOf k < length t / 32 = ltb-true _ _ (passed (live m t k) h .0) in
     omega arith
+
+-- an entry that is there and not ill-formed lies in memory
+pub reached-inside : (m : ℕ) (t : List ℕ) (n : ℕ) → not (eqb (at t n .kind) 0) ≡ true → not (isIll (lineOf m t n)) ≡ true → at t n .base + at t n .length ≤ m
+reached-inside m t n full formed =
+    formed-inside m (at t n) (eqb-false (at t n .kind) 0 (not-true (eqb (at t n .kind) 0) full)) (line-formed m t n formed)
 
 -- what a token came to is known of a verdict that is the same
 pub reaches-as : (t : List ℕ) (r : Reached) (l : Line) (v w : Verdict) → w ≡ v → Reaches t r v l → Reaches t r w l

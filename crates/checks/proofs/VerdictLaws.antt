@@ -93,3 +93,7 @@ passed (c ∷ cs) h = go (c .holds) (passed cs) h
     go : (b : Bool) → (verdict cs ≡ pass → Passed cs) → cond b (verdict cs) (stop (c .refusal) (c .place)) ≡ pass → (b ≡ true) × Passed cs
     go true f h = (refl, f h)
     go false f h = let z : _≡_ {A = ℕ} 0 1 = cc in absurd (omega arith)
+
+-- checks that all give the refusal r, and hold as one, hold each
+pub all-passed : (r : ℕ) (cs : List Check) → T (uniform r cs) → allHold cs ≡ true → Passed cs
+all-passed r cs u h = passed cs (together r true cs u ∙ ap (λ b. cond b pass (stop r 0)) h)

@@ -1,3 +1,4 @@
 pub mod CloneLaws
 pub mod LockLaws
+pub mod RevokeLaws
 pub mod RulingLaws

@@ -5,10 +5,13 @@ use mathlib.Core.List.{List, []}
 use Prim.Native.Nat.{ℕ}
 use Rattle.checks.specs.Answers.{stopAs}
 use Rattle.checks.specs.declared.answer.Refusal.{Refusal}
+use Rattle.checks.proofs.VerdictLaws.{Passed, passed}
+use Rattle.machine.specs.Operations.{nothing}
 use Rattle.machine.specs.Parts as parts
 use Rattle.machine.specs.Requests.{Request}
-use Rattle.machine.specs.Steps.{decide, pass, settle, Verdict}
-use Rattle.operations.specs.Rulings.{checkedAs, decided, granting, handed, refusing, ruled, Ruling, stateAs, verdictOn}
+use Rattle.machine.specs.Steps.{decide, pass, settle, stop, Verdict}
+use Rattle.machine.specs.Stops.{checks}
+use Rattle.operations.specs.Rulings.{checkedAs, decided, effectOn, grantedEffect, granting, handed, refusing, ruled, Ruling, stateAs, verdictOn}
 use Rattle.operations.specs.declared.answer.Checked.{Checked}
 use Rattle.operations.specs.declared.answer.Checked.the-variants.{Pass, Stop}
 use Rattle.operations.specs.declared.answer.Served.{Served}
@@ -33,3 +36,17 @@ decided-stop m s t q b why r e h = ap (λ (r : Served). handed r t) e ∙ sym (b
 pub decided-pass : (m : ℕ) (s : parts.State) (t : List ℕ) (q : Request) (b : List ℕ) (x : Ruling) → x ≡ granting m s t q b → verdictOn m s t q b ≡ pass → x ≡ decided m s t q b
 unfolding granting
 decided-pass m s t q b x e h = e ∙ sym (by-verdict m s t q b pass h)
+
+-- what a stop and a pass do to memory and buffer
+pub effect-stop : (m : ℕ) (s : parts.State) (t : List ℕ) (q : Request) (b : List ℕ) (r p : ℕ) → verdictOn m s t q b ≡ stop r p → effectOn m s t q b ≡ nothing
+unfolding effectOn decide verdictOn
+effect-stop m s t q b r p h = ap (λ (v : Verdict). settle v m s t q b .effect) h
+
+pub effect-pass : (m : ℕ) (s : parts.State) (t : List ℕ) (q : Request) (b : List ℕ) → verdictOn m s t q b ≡ pass → effectOn m s t q b ≡ grantedEffect m s t q b
+unfolding effectOn decide verdictOn grantedEffect
+effect-pass m s t q b h = ap (λ (v : Verdict). settle v m s t q b .effect) h
+
+-- a request that passes has every check hold
+pub passed-on : (m : ℕ) (s : parts.State) (t : List ℕ) (q : Request) (b : List ℕ) → verdictOn m s t q b ≡ pass → Passed (checks m s t q b)
+unfolding verdictOn
+passed-on m s t q b h = passed (checks m s t q b) h
