@@ -114,14 +114,14 @@ reach-is-live m t k u h = parts-pass (live m t k) (lockOpen m t k u ∷ []) h .0
 pub reach-in : (m : ℕ) (t : List ℕ) (k u : ℕ) → reachVerdict m t k u ≡ pass → 32 * numberOf k + 32 ≤ length t
 reach-in m t k u h = live-in m t k (reach-is-live m t k u h)
 
--- what a token came to is known of a verdict that is the same
-pub reaches-as : (t : List ℕ) (r : Reached) (l : Line) (v w : Verdict) → w ≡ v → Reaches t r v l → Reaches t r w l
-reaches-as t r l v w e h = subst (λ (x : Verdict). Reaches t r x l) (sym e) h
-
 -- an entry that is there and not ill-formed lies in memory
 pub reached-inside : (m : ℕ) (t : List ℕ) (n : ℕ) → not (eqb (at t n .kind) 0) ≡ true → not (isIll (lineOf m t n)) ≡ true → at t n .base + at t n .length ≤ m
 reached-inside m t n full formed =
     formed-inside m (at t n) (eqb-false (at t n .kind) 0 (not-true (eqb (at t n .kind) 0) full)) (line-formed m t n formed)
+
+-- what a token came to is known of a verdict that is the same
+pub reaches-as : (t : List ℕ) (r : Reached) (l : Line) (v w : Verdict) → w ≡ v → Reaches t r v l → Reaches t r w l
+reaches-as t r l v w e h = subst (λ (x : Verdict). Reaches t r x l) (sym e) h
 
 pub formed-in : (m : ℕ) (t : List ℕ) (k : ℕ) → formedVerdict m t k ≡ pass → 32 * numberOf k + 32 ≤ length t
 unfolding formedVerdict

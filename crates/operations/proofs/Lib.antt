@@ -8,5 +8,6 @@ pub mod ExecuteOnlyLaws
 pub mod LockLaws
 pub mod PartLaws
 pub mod ResetLaws
+pub mod RevokeLaws
 pub mod RulingLaws
 pub mod TurnLaws

@@ -46,7 +46,10 @@ granting m s t q b = ruled (grant m s t q b)
 unfoldable pub decided : ℕ → parts.State → List ℕ → Request → List ℕ → Ruling
 decided m s t q b = ruled (decide m s t q b)
 
--- what a decision does to memory and buffer
+-- what a grant, and a decision, do to memory and buffer
+unfoldable pub grantedEffect : ℕ → parts.State → List ℕ → Request → List ℕ → Effect
+grantedEffect m s t q b = grant m s t q b .effect
+
 unfoldable pub effectOn : ℕ → parts.State → List ℕ → Request → List ℕ → Effect
 effectOn m s t q b = decide m s t q b .effect
 

@@ -10,5 +10,6 @@ pub mod execute_only;
 pub mod issue;
 pub mod lock;
 pub mod reset;
+pub mod revoke;
 pub mod serve;
 pub mod token;
