@@ -7,16 +7,17 @@ use Prim.Native.Nat.{ℕ, _+_, _*_, _/_, _≤_, _<_}
 use native.Mathlib.Omega.{arith}
 use lib.Dec.{eqb, ltb}
 use lib.ListN.{length}
-use borrow.Author.Tests.{le-ltb, lt-ltb, ltb-true}
+use borrow.Author.Tests.{eqb-false, le-ltb, lt-ltb, ltb-true, not-true}
 use Rattle.layout.specs.Token.{named}
 use Rattle.layout.specs.declared.entry.Entry.{Entry}
 use Rattle.layout.specs.declared.token.Named.{Named}
 use Rattle.layout.proofs.TestLaws.{both}
-use Rattle.machine.specs.Line.{dead, ill, isLocked, lineOf, owner, whose}
+use Rattle.machine.specs.Line.{dead, ill, isIll, isLocked, lineOf, owner, whose}
 use Rattle.machine.specs.Operations.{numberOf}
 use Rattle.machine.specs.Parts.{at, size}
 use Rattle.machine.specs.Steps.{pass, stop, verdict}
 use Rattle.machine.specs.Stops.{entryNamed, lineAlive, lineFormed, live, lockOpen}
+use Rattle.machine.proofs.Lent.{formed-inside, line-formed}
 use Rattle.checks.specs.Holds.{namedHolds}
 use Rattle.checks.specs.Answers.{formedVerdict, liveVerdict, reachVerdict}
 use Rattle.checks.proofs.VerdictLaws.{andThen, passed, passes, stops, verdict-append}
@@ -33,7 +34,7 @@ module _ (t : List ℕ) (k : ℕ) (n : Named) (is : n ≡ named k) where
   entry-out h = let i : length t / 32 ≤ numberOf k = rw is at h in rw (le-ltb (numberOf k) (length t / 32) i)
 
 -- an entry that is named stands in the table
-size-in : (t : List ℕ) (n : ℕ) → ltb n (size t) ≡ true → 32 * n + 32 ≤ length t
+pub size-in : (t : List ℕ) (n : ℕ) → ltb n (size t) ≡ true → 32 * n + 32 ≤ length t
 unfolding size
 size-in t n h = let i : n < length t / 32 = ltb-true _ _ h in omega arith
 
@@ -108,3 +109,8 @@ live-in m t k h = size-in t (numberOf k) (passed (live m t k) h .0)
 pub formed-in : (m : ℕ) (t : List ℕ) (k : ℕ) → formedVerdict m t k ≡ pass → 32 * numberOf k + 32 ≤ length t
 unfolding formedVerdict
 formed-in m t k h = size-in t (numberOf k) (passed (entryNamed t k ++ (lineFormed m t k ∷ [])) h .0)
+
+-- an entry that is there and not ill-formed lies in memory
+pub reached-inside : (m : ℕ) (t : List ℕ) (n : ℕ) → not (eqb (at t n .kind) 0) ≡ true → not (isIll (lineOf m t n)) ≡ true → at t n .base + at t n .length ≤ m
+reached-inside m t n full formed =
+    formed-inside m (at t n) (eqb-false (at t n .kind) 0 (not-true (eqb (at t n .kind) 0) full)) (line-formed m t n formed)

@@ -1,3 +1,4 @@
 pub mod CloneLaws
 pub mod DropLaws
+pub mod MergeLaws
 pub mod RulingLaws

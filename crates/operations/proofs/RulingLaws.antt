@@ -5,9 +5,11 @@ use mathlib.Core.List.{List, []}
 use Prim.Native.Nat.{ℕ}
 use Rattle.checks.specs.Answers.{stopAs}
 use Rattle.checks.specs.declared.answer.Refusal.{Refusal}
+use Rattle.checks.proofs.VerdictLaws.{Passed, passed}
 use Rattle.machine.specs.Parts as parts
 use Rattle.machine.specs.Requests.{Request}
 use Rattle.machine.specs.Steps.{decide, pass, settle, Verdict}
+use Rattle.machine.specs.Stops.{checks}
 use Rattle.operations.specs.Rulings.{checkedAs, decided, granting, handed, refusing, ruled, Ruling, stateAs, verdictOn}
 use Rattle.operations.specs.declared.answer.Checked.{Checked}
 use Rattle.operations.specs.declared.answer.Checked.the-variants.{Pass, Stop}
@@ -33,3 +35,8 @@ decided-stop m s t q b why r e h = ap (λ (r : Served). handed r t) e ∙ sym (b
 pub decided-pass : (m : ℕ) (s : parts.State) (t : List ℕ) (q : Request) (b : List ℕ) (x : Ruling) → x ≡ granting m s t q b → verdictOn m s t q b ≡ pass → x ≡ decided m s t q b
 unfolding granting
 decided-pass m s t q b x e h = e ∙ sym (by-verdict m s t q b pass h)
+
+-- a request that passes has every check hold
+pub passed-on : (m : ℕ) (s : parts.State) (t : List ℕ) (q : Request) (b : List ℕ) → verdictOn m s t q b ≡ pass → Passed (checks m s t q b)
+unfolding verdictOn
+passed-on m s t q b h = passed (checks m s t q b) h

@@ -49,9 +49,12 @@ decided m s t q b = ruled (decide m s t q b)
 abbrev pub handed : Served → List ℕ → Ruling
 handed r t = record { state = stateAs (r .state); table = t; reply = replyAs (r .answer) }
 
--- a refusal, and a grant that gives no token, as the code hands them back
+-- a refusal, a grant that gives no token, and one that gives tokens, as the code hands them back
 abbrev pub refusing : State → Refusal → Served
 refusing s why = record { state = s; answer = Refused why }
 
 abbrev pub plainly : State → ℕ → Served
 plainly s d = record { state = s; answer = Granted 0 0 d }
+
+abbrev pub giving : State → ℕ → ℕ → Served
+giving s a b = record { state = s; answer = Granted a b 0 }

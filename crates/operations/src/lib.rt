@@ -2,4 +2,6 @@
 pub mod answer;
 pub mod clone;
 pub mod drop;
+pub mod issue;
+pub mod merge;
 pub mod token;
