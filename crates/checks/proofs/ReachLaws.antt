@@ -35,7 +35,7 @@ module _ (t : List ℕ) (k : ℕ) (n : Named) (is : n ≡ named k) where
   entry-out h = let i : length t / 32 ≤ numberOf k = rw is at h in rw (le-ltb (numberOf k) (length t / 32) i)
 
 -- an entry that is named stands in the table
-size-in : (t : List ℕ) (n : ℕ) → ltb n (size t) ≡ true → 32 * n + 32 ≤ length t
+pub size-in : (t : List ℕ) (n : ℕ) → ltb n (size t) ≡ true → 32 * n + 32 ≤ length t
 unfolding size
 size-in t n h = let i : n < length t / 32 = ltb-true _ _ h in omega arith
 

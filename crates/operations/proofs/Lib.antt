@@ -6,6 +6,7 @@ pub mod DeriveLaws
 pub mod DropLaws
 pub mod ExecuteOnlyLaws
 pub mod LockLaws
+pub mod MergeLaws
 pub mod PartLaws
 pub mod ResetLaws
 pub mod RevokeLaws

@@ -14,6 +14,7 @@ use Rattle.checks.proofs.VerdictLaws.{Passed, passed}
 use Rattle.machine.specs.Parts as parts
 use Rattle.machine.specs.Stops.{checks}
 use Rattle.machine.specs.Parts as parts
+use Rattle.machine.specs.Parts as parts
 use Rattle.operations.specs.declared.answer.Checked.{Checked}
 use Rattle.operations.specs.declared.answer.Checked.the-variants.{Pass, Stop}
 use Rattle.operations.specs.declared.answer.Served.{Served}

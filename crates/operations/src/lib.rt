@@ -9,6 +9,7 @@ pub mod drop;
 pub mod execute_only;
 pub mod issue;
 pub mod lock;
+pub mod merge;
 pub mod reset;
 pub mod revoke;
 pub mod serve;
