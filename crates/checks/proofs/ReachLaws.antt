@@ -86,6 +86,12 @@ live-in m t k h =
     let i : numberOf k < length t / 32 = ltb-true _ _ (passed (live m t k) h .0) in
     omega arith
 
+pub reach-in : (m : ℕ) (t : List ℕ) (k u : ℕ) → reachVerdict m t k u ≡ pass → 32 * numberOf k + 32 ≤ length t
+unfolding reachVerdict size
+reach-in m t k u h =
+    let i : numberOf k < length t / 32 = ltb-true _ _ (passed (reachable m t k u) h .0) in
+    omega arith
+
 -- an entry that is there and not ill-formed lies in memory
 pub reached-inside : (m : ℕ) (t : List ℕ) (n : ℕ) → not (eqb (at t n .kind) 0) ≡ true → not (isIll (lineOf m t n)) ≡ true → at t n .base + at t n .length ≤ m
 reached-inside m t n full formed =

@@ -1,3 +1,4 @@
 pub mod Allotments
 pub mod Children
+pub mod Creations
 pub mod Rulings

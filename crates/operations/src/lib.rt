@@ -3,6 +3,7 @@ pub mod allot;
 pub mod answer;
 pub mod child;
 pub mod clone;
+pub mod create;
 pub mod derive;
 pub mod execute_only;
 pub mod issue;
