@@ -2,6 +2,7 @@ pub mod AccessLaws
 pub mod AllotLaws
 pub mod ChildLaws
 pub mod CloneLaws
+pub mod CreateLaws
 pub mod DeriveLaws
 pub mod DropLaws
 pub mod ExecuteOnlyLaws

@@ -1,5 +1,6 @@
 pub mod Allotments
 pub mod Children
+pub mod Creations
 pub mod Locks
 pub mod Neighbours
 pub mod Renewals

@@ -4,6 +4,7 @@ pub mod allot;
 pub mod answer;
 pub mod child;
 pub mod clone;
+pub mod create;
 pub mod derive;
 pub mod drop;
 pub mod execute_only;
