@@ -2,15 +2,14 @@
 -- Assumes nothing.
 use mathlib.Core.Path.{_≡_, refl, sym, ap, _∙_}
 use mathlib.Core.Logic.{_≢_}
-use mathlib.Core.List.{List, [], _∷_}
+use mathlib.Core.List.{[], _∷_}
 use mathlib.Core.Bool.{Bool, true, false, not, _&&_, _||_}
 use Prim.Native.Nat.{ℕ, zero, suc, _+_, _≤_, _<_, _^_}
 use native.Mathlib.Nat.{mod-lt}
 use native.Mathlib.Omega.{arith}
 use lib.Dec.{eqb}
-use lib.ListN.{drop}
 use lib.Pow.{pow-pos}
-use borrow.Author.Tests.{eqb-false, le-ltb, ltb-false, ne-eqb}
+use borrow.Author.Tests.{le-ltb, ne-eqb}
 use Rattle.layout.specs.Entry.{bit, direct, directFields, directWidths, free, indirect, isDirect, isFree, isIndirect, Storable}
 use Rattle.layout.specs.Fields.{Fit}
 use Rattle.layout.specs.Form.{endPastMemory, faultsOf, holderWithoutLock, illFormed, lengthZero, lockedWithoutHolder, orSome}
@@ -18,14 +17,14 @@ use Rattle.layout.specs.Tag.{tagOf}
 use Rattle.layout.specs.Token.{NamedFits, tokenFields, tokenWidths}
 use Rattle.layout.specs.declared.entry.Entry.{Entry}
 use Rattle.layout.specs.declared.token.Named.{Named}
-use Rattle.layout.proofs.EntryLaws.{Laid, one, two}
 use Rattle.layout.proofs.FieldLaws.{pack-lt}
-use Rattle.layout.proofs.FormLaws.{ill-as, laid}
+use Rattle.layout.proofs.FormLaws.{ill-as}
 use Rattle.layout.proofs.TokenLaws.{encoding-of, named-of}
 use Rattle.machine.specs.Issuing.{issue}
 use Rattle.machine.specs.Line.{parentNumber}
 use Rattle.machine.specs.Operations.{recount, relock, tokenOf}
 use Rattle.machine.specs.Parts.{mostMemory, spent, State}
+use Rattle.machine.proofs.Basics.{some-false}
 
 -- packed with nothing lost, and well-formed in a memory of m bytes
 pub record Good (m : ℕ) (e : Entry) : Type 0 where
@@ -33,29 +32,6 @@ pub record Good (m : ℕ) (e : Entry) : Type 0 where
   pub formed : illFormed m e ≡ false
 
 -- ---- what a good entry has
-
-or-false : (a b : Bool) → (a || b) ≡ false → (a ≡ false) × (b ≡ false)
-or-false true b h = let z : _≡_ {A = ℕ} 0 1 = cc in absurd (omega arith)
-or-false false b h = (refl, h)
-
--- no case holds
-some-false : (a : Bool) (bs : List Bool) → orSome a bs ≡ false → a ≡ false
-some-false a [] h = h
-some-false a (b ∷ bs) h = or-false a b (some-false (a || b) bs h) .0
-
--- its segment is not empty and lies in memory
-pub range : (m : ℕ) (e : Entry) → Good m e → e .kind ≢ 0 → (0 < e .length) × (e .base + e .length ≤ m)
-range m e g k = go (laid m e k (g .formed))
-  where
-    fault : (bs : List Bool) → orSome false (lengthZero e ∷ endPastMemory m e ∷ bs) ≡ false → (0 < e .length) × (e .base + e .length ≤ m)
-    fault bs h =
-        let both = or-false (lengthZero e) (endPastMemory m e) (some-false (lengthZero e || endPastMemory m e) bs h) in
-        let some = eqb-false (e .length) 0 (both .0) in
-        (omega arith, ltb-false m (e .base + e .length) (both .1))
-
-    go : Laid (e .kind) → (0 < e .length) × (e .base + e .length ≤ m)
-    go (one i) = fault (drop 2 (faultsOf 1 m e)) (sym (ill-as m e i) ∙ g .formed)
-    go (two i) = fault (drop 2 (faultsOf 2 m e)) (sym (ill-as m e i) ∙ g .formed)
 
 -- a direct entry's fields fit
 pub direct-fit : (m : ℕ) (e : Entry) → Good m e → e .kind ≡ 1 → Fit directWidths (directFields e)
