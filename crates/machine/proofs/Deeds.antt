@@ -2,14 +2,14 @@
 -- Assumes nothing.
 use mathlib.Core.Path.{_≡_, refl, sym, ap, subst, _∙_}
 use mathlib.Core.Logic.{_≢_}
-use mathlib.Core.List.{List, [], _∷_, List·Memᴰ·head, List·Memᴰ·tail}
+use mathlib.Core.List.{List, [], List·Memᴰ·head, List·Memᴰ·tail}
 use mathlib.Core.Bool.{Bool, true, false, false≢true, not, _&&_, cond}
-use Prim.Native.Nat.{ℕ, zero, suc, _+_, _-_, _≤_, _<_, _^_}
+use Prim.Native.Nat.{ℕ, zero, suc, _+_, _≤_, _<_, _^_}
 use native.Mathlib.Omega.{arith}
 use native.Mathlib.Decide.{decLt, ℕ-discrete}
-use lib.Bits.{and-le-l, bitAnd}
+use lib.Bits.{and-le-l}
 use lib.Dec.{leb, ltb, eqb}
-use lib.ListN.{length, replicate, length-replicate}
+use lib.ListN.{length, length-replicate}
 use borrow.Author.Tests.{eqb-false, eqb-true, leb-true, ltb-false, ltb-true, ne-eqb, not-true}
 use Rattle.layout.specs.Entry.{direct, directFields, directWidths, free}
 use Rattle.layout.specs.Fields.{Fit}
@@ -20,8 +20,8 @@ use Rattle.machine.specs.Demand3.{above, In, IsReset, itself, Owns, Revo
 use Rattle.machine.specs.FromReset.{Has, Inside, owned}
 use Rattle.machine.specs.Issuing.{newNumber}
 use Rattle.machine.specs.Line.{dead, ill, isLocked, Line, linked, lineOf, lockedFrom, owner, ownerOf, parentNumber}
-use Rattle.machine.specs.Operations.{childOf, climb, Effect, grant, grantCreate, grantDerive, granted, grantLock, grantMerge, grantRevoke, mergedOf, Name, namedEntry, nameOf, nothing, numberOf, partOf, recount, relock, Reply, restOf, revokedOf, revokeNonce, store, tokenOf, transfer}
-use Rattle.machine.specs.Parts.{at, moved, put, size, spent, State}
+use Rattle.machine.specs.Operations.{childOf, climb, Effect, grant, grantCreate, grantDerive, grantLock, grantMerge, grantRevoke, mergedOf, Name, namedEntry, nothing, numberOf, partOf, Reply, restOf, revokedOf, revokeNonce, transfer}
+use Rattle.machine.specs.Parts.{at, put, size, spent, State}
 use Rattle.machine.specs.Requests.{access, clone, create, derive, executeOnly, fetching, lock, merge, reading, release, Request, reset, revoke, taskOf, unlock, Way, writing}
 use Rattle.machine.specs.Stops.{checks}
 use Rattle.machine.proofs.Basics.{neqb-true, owner-direct, parent, put-all, put2-all, range}
@@ -73,15 +73,15 @@ module _ (m : ℕ) (s : State) (t : List ℕ) (inv : Inv m s t) where
   owns n k v = walk-owns (suc (at t n .nonce)) m t n (neqb-true (at t n .kind) 0 k) v
 
   -- no entry is written
-  pub deed-none : (q : Request) (r : Reply) (f : Effect)
+  pub deed-none : (q : Request) {s′ : State} {r : Reply} {f : Effect} → s .next ≤ s′ .next
       → ((n x : ℕ) → Shut (taskOf q) (at t n) → (Revokes q n → ⊥) → Touches f x → In (at t n) x → ⊥)
-      → Deed m s t q (record { state = s; table = t; reply = r; issued = []; effect = f })
-  deed-none q r f sp =
-      record { up = omega arith; moves = stay; fate = unmoved q (s .next) []; carried = λ n x h. h; spared = sp; good = inv .good; long = refl; sum = refl }
+      → Deed m s t q (record { state = s′; table = t; reply = r; issued = []; effect = f })
+  deed-none q {s′} up sp =
+      record { up = up; moves = stay; fate = unmoved q (s′ .next) []; carried = λ n x h. h; spared = sp; good = inv .good; long = refl; sum = refl }
 
   deed-access : (w : Way) (k u : ℕ) (b : List ℕ) → Passed (checks m s t (access w k u) b) → Deed m s t (access w k u) (grant m s t (access w k u) b)
   deed-access w k u b h =
-      deed-none (access w k u) (granted 0 0 0) (transfer w (at t n .base + named k .offset) b)
+      deed-none (access w k u) (omega arith)
       (λ i x sh nr tc ins.
       let live : Live l = (search, search) in
       let o : Owns t n (ownerOf l) = owns n (search) live in
@@ -101,11 +101,11 @@ module _ (m : ℕ) (s : State) (t : List ℕ) (inv : Inv m s t) where
 
   -- ---- one entry is written, over the segment that it had
 
-  deed-put : (q : Request) (n : ℕ) (e : Entry) (s′ : State) (r : Reply) (ks : List Name) (f : Effect) → s .next ≤ s′ .next → Good m e → at t n .kind ≢ 0 → Over e (at t n)
+  deed-put : (q : Request) {n : ℕ} {e : Entry} {s′ : State} {r : Reply} {ks : List Name} {f : Effect} → s .next ≤ s′ .next → Good m e → at t n .kind ≢ 0 → Over e (at t n)
       → Fate s t q (s′ .next) ks stay n e
       → ((i x : ℕ) → Shut (taskOf q) (at t i) → (Revokes q i → ⊥) → Touches f x → In (at t i) x → ⊥)
       → Deed m s t q (record { state = s′; table = put t n e; reply = r; issued = ks; effect = f })
-  deed-put q n e s′ r ks f up good full o fate sp =
+  deed-put q {n} {e} {s′} {r} {ks} {f} up good full o fate sp =
       record {
         up = up;
         moves = stay;
@@ -129,12 +129,12 @@ module _ (m : ℕ) (s : State) (t : List ℕ) (inv : Inv m s t) where
     first : p ≡ k → Holds a x → Lands p n a b k x
     second : n ≡ k → Holds b x → Lands p n a b k x
 
-  deed-put2 : (q : Request) (p n : ℕ) (a b : Entry) (s′ : State) (r : Reply) (ks : List Name) (g : ℕ → ℕ → ℕ) → s .next ≤ s′ .next → Good m a → Good m b → p < size t → n < size t → p ≢ n
+  deed-put2 : (q : Request) {p n : ℕ} {a b : Entry} {s′ : State} {r : Reply} {ks : List Name} (g : ℕ → ℕ → ℕ) → s .next ≤ s′ .next → Good m a → Good m b → p < size t → n < size t → p ≢ n
       → owned a + owned b ≡ owned (at t p) + owned (at t n)
       → Fate s t q (s′ .next) ks g n b → Fate s t q (s′ .next) ks g p a → ((i : ℕ) → i ≢ n → i ≢ p → (x : ℕ) → i ≡ g i x)
       → ((x : ℕ) → Has t n x → Lands p n a b (g n x) x) → ((x : ℕ) → Has t p x → Lands p n a b (g p x) x)
       → Deed m s t q (record { state = s′; table = put (put t p a) n b; reply = r; issued = ks; effect = nothing })
-  deed-put2 q p n a b s′ r ks g up ga gb hp hn d sum nb pa others cn cp =
+  deed-put2 q {p} {n} {a} {b} {s′} {r} {ks} g up ga gb hp hn d sum nb pa others cn cp =
       record {
         up = up;
         moves = g;
@@ -175,12 +175,11 @@ module _ (m : ℕ) (s : State) (t : List ℕ) (inv : Inv m s t) where
       let most : size t ≤ 1024 = inv .most in
       let low : n < 1024 = omega arith in
       let whole = range m (at t n) k (inv .good n .formed) in
-      let named-n : parentNumber (childOf s t n o l p) ≡ n = parent-named m n (at t n) (at t n .base + o) l p (childOf s t n o l p .tag) (s .next) (inv .good n) low in
-      deed-put2 q (newNumber s t) n (childOf s t n o l p) (recount (at t n) (at t n .count + 1)) (moved s (newNumber s t) (s .next + 1)) (granted (tokenOf c (newNumber s t) (childOf s t n o l p)) 0 0)
-      (nameOf (newNumber s t) (childOf s t n o l p) ∷ []) stay
+      let named-n : parentNumber (childOf s t n o l p) ≡ n = parent-named m n (at t n) (inv .good n) low in
+      deed-put2 q stay
       (omega arith)
-      (issue-indirect m s (newNumber s t) n (at t n) (at t n .base + o) l p (s .next) (inv .small) (inv .good n) low pos (omega arith) hp (omega arith))
-      (recount-good m (at t n) (at t n .count + 1) (inv .good n) k (omega arith))
+      (issue-indirect m s (newNumber s t) n (inv .small) (inv .good n) low pos (omega arith) hp (omega arith))
+      (recount-good m (inv .good n) k (omega arith))
       (number-first s t f .inside) in-n (apart k (number-first s t f .free))
       (omega (arith, owned-other (at t (newNumber s t)) (omega (arith, number-first s t f .free))))
       (kept refl (λ x h. refl) (λ h. (refl, refl)))
@@ -219,7 +218,7 @@ module _ (m : ℕ) (s : State) (t : List ℕ) (inv : Inv m s t) where
       by-both (λ d i. s .next + i ≤ spent → Deed m s t q d) (eqb l (at t n .length))
       (λ e v.
       let same : l ≡ at t n .length = eqb-true l (at t n .length) e in
-      deed-put2 q new n a free (moved s new (s .next + 1)) (granted (tokenOf c new a) 0 0) (nameOf new a ∷ []) (split n new y) (omega arith)
+      deed-put2 q (split n new y) (omega arith)
       (a-good (omega arith)) (free-good m) (number-first s t f .inside) in-n (apart (omega arith) (number-first s t f .free))
       (omega (arith, owned-direct (at t n) k, owned-other (at t new) (omega (arith, number-first s t f .free))))
       (gone refl unlocked)
@@ -229,9 +228,9 @@ module _ (m : ℕ) (s : State) (t : List ℕ) (inv : Inv m s t) where
       (λ x h. absurd (omega (arith, h .direct, number-first s t f .free))))
       (λ e v.
       let less : l ≢ at t n .length = eqb-false l (at t n .length) e in
-      deed-put2 q new n a r (moved s new (s .next + 2)) (granted (tokenOf c new a) (tokenOf c n r) 0) (nameOf new a ∷ nameOf n r ∷ []) (split n new y) (omega arith)
+      deed-put2 q (split n new y) (omega arith)
       (a-good (omega arith))
-      (issue-direct m s n (at t n .base + l) (at t n .length - l) (at t n .user) (at t n .permissions) (at t n .lockable) (s .next + 1) (inv .small) (omega arith) (omega (arith, whole)) (omega (arith, fit)) (omega (arith, fit)) (omega arith))
+      (issue-direct m s n (inv .small) (omega arith) (omega (arith, whole)) (omega (arith, fit)) (omega (arith, fit)) (omega arith))
       (number-first s t f .inside) in-n (apart (omega arith) (number-first s t f .free))
       (omega (arith, owned-direct (at t n) k, owned-other (at t new) (omega (arith, number-first s t f .free))))
       (issued (omega arith) (omega arith) (List·Memᴰ·tail (List·Memᴰ·head refl)) (λ h. absurd (omega arith))
@@ -271,7 +270,7 @@ module _ (m : ℕ) (s : State) (t : List ℕ) (inv : Inv m s t) where
       vacant h = omega (arith, h .direct, number-first s t f .free)
 
       a-good : s .next < spent → Good m a
-      a-good h = issue-direct m s new (at t n .base) l u p (at t n .lockable) (s .next) (inv .small) pos (omega (arith, whole)) hu hp h
+      a-good h = issue-direct m s new (inv .small) (omega arith) (omega (arith, whole)) hu hp h
 
       part : (x : ℕ) → In a x → Source t (split n new y) new x
       part x i = record { from = n; has = record { direct = k; inside = omega arith }; to = split-front n new y x (i .1) }
@@ -299,9 +298,9 @@ module _ (m : ℕ) (s : State) (t : List ℕ) (inv : Inv m s t) where
       let whole = range m (at t n) (omega arith) (inv .good n .formed) in
       let whole′ = range m (at t k) (omega arith) (inv .good k .formed) in
       let fit : Fit directWidths (directFields (at t n)) = direct-fit m (at t n) (inv .good n) d in
-      deed-put2 q k n free a (moved s (s .last) (s .next + 1)) (granted (tokenOf c n a) 0 0) (nameOf n a ∷ []) (fuse n k) (omega arith)
+      deed-put2 q (fuse n k) (omega arith)
       (free-good m)
-      (issue-direct m s n (at t n .base) (at t n .length + at t k .length) (at t n .user) (bitAnd (at t n .permissions) (at t k .permissions)) (at t n .lockable) (s .next) (inv .small) (omega arith) (omega arith) (omega arith)
+      (issue-direct m s n (inv .small) (omega arith) (omega arith) (omega arith)
       (omega (arith, and-le-l (at t n .permissions) (at t k .permissions))) (omega arith))
       (in-table t k (omega arith)) (in-table t n (omega arith))
       (λ e. let same : at t k .base ≡ at t n .base = ap (λ (x : ℕ). at t x .base) e in omega arith)
@@ -344,8 +343,8 @@ module _ (m : ℕ) (s : State) (t : List ℕ) (inv : Inv m s t) where
     good : (n : ℕ) → Good m (at u′ n)
     long : size u′ ≡ size u
 
-  put-fades : (u : List ℕ) → ((n : ℕ) → Good m (at u n)) → (n : ℕ) (e : Entry) → Good m e → Fades (at u n) e → Fading u (put u n e)
-  put-fades u gs n e g h = go (decLt n (size u))
+  put-fades : (u : List ℕ) → ((n : ℕ) → Good m (at u n)) → (n : ℕ) {e : Entry} → Fades (at u n) e → Good m e → Fading u (put u n e)
+  put-fades u gs n {e} h g = go (decLt n (size u))
     where
       go : Dec (n < size u) → Fading u (put u n e)
       go (yes i) =
@@ -361,22 +360,21 @@ module _ (m : ℕ) (s : State) (t : List ℕ) (inv : Inv m s t) where
   climb-fades zero u n gs = record { each = λ k. same (at u k); good = gs; long = refl }
   climb-fades (suc f) u n gs =
       by-cond (Fading u) (leb 2 (at u n .count))
-      (λ i. put-fades u gs n (recount (at u n) (at u n .count - 1))
-      (recount-good m (at u n) (at u n .count - 1) (gs n) (fitting m (at u n) (gs n) .counted (omega (arith, leb-true 2 (at u n .count) i))) (omega (arith, fitting m (at u n) (gs n))))
-      (stays refl refl refl))
+      (λ i. put-fades u gs n (stays refl refl refl)
+      (recount-good m (gs n) (fitting m (at u n) (gs n) .counted (omega (arith, leb-true 2 (at u n .count) i))) (omega (arith, fitting m (at u n) (gs n)))))
       (λ i. by-cond (Fading u) (eqb (at u n .count) 0) (λ z. record { each = λ k. same (at u k); good = gs; long = refl })
       (λ z. by-cond (Fading u) (eqb (at u n .kind) 1)
-      (λ j. put-fades u gs n (recount (at u n) 0) (recount-good m (at u n) 0 (gs n) (omega (arith, eqb-true (at u n .kind) 1 j)) (omega arith)) (stays refl refl refl))
+      (λ j. put-fades u gs n (stays refl refl refl) (recount-good m (gs n) (omega (arith, eqb-true (at u n .kind) 1 j)) (omega arith)))
       (λ j.
-      let once : Fading u (put u n free) = put-fades u gs n free (free-good m) (freed refl (eqb-false (at u n .kind) 1 j)) in
+      let once : Fading u (put u n free) = put-fades u gs n (freed refl (eqb-false (at u n .kind) 1 j)) (free-good m) in
       by-cond (Fading u) (linked u (at u n))
       (λ v.
       let more : Fading (put u n free) (climb f (put u n free) (parentNumber (at u n))) = climb-fades f (put u n free) (parentNumber (at u n)) (once .good) in
       record { each = λ k. fades-fades (once .each k) (more .each k); good = more .good; long = more .long ∙ once .long })
       (λ v. once))))
 
-  deed-fading : (q : Request) (t′ : List ℕ) (r : Reply) → Fading t t′ → Deed m s t q (record { state = s; table = t′; reply = r; issued = []; effect = nothing })
-  deed-fading q t′ r f =
+  deed-fading : (q : Request) {t′ : List ℕ} {r : Reply} → Fading t t′ → Deed m s t q (record { state = s; table = t′; reply = r; issued = []; effect = nothing })
+  deed-fading q {t′} f =
       record {
         up = omega arith;
         moves = stay;
@@ -405,7 +403,7 @@ module _ (m : ℕ) (s : State) (t : List ℕ) (inv : Inv m s t) where
       let n : ℕ = numberOf k in
       let one : Bool = eqb (at t n .count) 1 in
       let locked : Bool = isLocked t (lineOf m t n) in
-      deed-fading (release k) (cond (one && locked) t (climb (suc (at t n .nonce)) t n)) (granted 0 0 (cond (one && not locked) 1 0))
+      deed-fading (release k)
       (by-cond (Fading t) (one && locked)
       (λ i. record { each = λ n. same (at t n); good = inv .good; long = refl })
       (λ i. climb-fades (suc (at t n .nonce)) t n (inv .good)))
@@ -415,19 +413,18 @@ module _ (m : ℕ) (s : State) (t : List ℕ) (inv : Inv m s t) where
   pub revoked-good : (n : ℕ) → at t n .kind ≡ 1 → revokeNonce s t n < spent → Good m (revokedOf s t n)
   revoked-good n d hn =
       let whole = range m (at t n) (omega arith) (inv .good n .formed) in
-      issue-direct m s n (at t n .base) (at t n .length) 0 7 true (revokeNonce s t n) (inv .small) (whole .0) (whole .1) (omega arith) (omega arith) hn
+      issue-direct m s n (inv .small) (whole .0) (whole .1) (omega arith) (omega arith) (omega arith)
 
   deed-revoke : (k c : ℕ) → at t (numberOf k) .kind ≡ 1 → revokeNonce s t (numberOf k) < spent → Deed m s t (revoke k c) (grantRevoke s t (numberOf k) c)
   deed-revoke k c d hn =
       let n : ℕ = numberOf k in
       let up : s .next ≤ revokeNonce s t n = revoke-least s t n in
-      deed-put (revoke k c) n (revokedOf s t n) (moved s (s .last) (revokeNonce s t n + 1)) (granted (tokenOf c n (revokedOf s t n)) 0 0) (nameOf n (revokedOf s t n) ∷ [])
-      (store (at t n .base) (replicate (at t n .length) 0)) (omega arith)
+      deed-put (revoke k c) (omega arith)
       (revoked-good n d hn)
       (omega arith)
       (record { kind = sym d; base = refl; length = refl })
-      (issued up (omega arith) (List·Memᴰ·head refl) (λ h. absurd (omega arith)) (λ h x i. record { from = n; has = record { direct = d; inside = i }; to = refl }) (λ h. refl))
-      (λ i x sh nr tc ins. nr (inv .tiled n i x (record { direct = d; inside = (tc .0, omega (arith, tc .1, length-replicate {A = ℕ} (at t n .length) 0)) }) (record { direct = sh .direct; inside = ins })))
+      (issued (omega arith) (omega arith) (List·Memᴰ·head refl) (λ h. absurd (omega arith)) (λ h x i. record { from = n; has = record { direct = d; inside = i }; to = refl }) (λ h. refl))
+      (λ i x sh nr tc ins. nr (inv .tiled n i x (record { direct = d; inside = (tc .0, omega (arith, simp (length-replicate) at (tc .1))) }) (record { direct = sh .direct; inside = ins })))
 
   -- lock and unlock write the lock at the owner of a line that is open to the task
   deed-lock : (q : Request) (n : ℕ) (locked : Bool) (h : ℕ) → not (eqb (at t n .kind) 0) ≡ true → Live (lineOf m t n) → not (lockedFrom t (taskOf q) (lineOf m t n)) ≡ true
@@ -435,8 +432,8 @@ module _ (m : ℕ) (s : State) (t : List ℕ) (inv : Inv m s t) where
   deed-lock q n locked h k v o hh a b =
       let l : Line = lineOf m t n in
       let d : at t (ownerOf l) .kind ≡ 1 = owner-direct (owns n k v) in
-      deed-put q (ownerOf l) (relock (at t (ownerOf l)) locked h) s (granted 0 0 0) [] nothing (omega arith)
-      (relock-good m (at t (ownerOf l)) locked h (inv .good (ownerOf l)) d hh a b)
+      deed-put q (omega arith)
+      (relock-good m (inv .good (ownerOf l)) d hh a b)
       (omega arith)
       (record { kind = refl; base = refl; length = refl })
       (kept refl (λ x h. refl) (λ i. absurd (owner-open t l (taskOf q) v o i)))
@@ -492,8 +489,8 @@ module _ (m : ℕ) (s : State) (t : List ℕ) (inv : Inv m s t) where
   deed-granted (clone k) b nr h =
       let e : Entry = namedEntry t k in
       let full : e .kind ≢ 0 = neqb-true (e .kind) 0 (search) in
-      deed-put (clone k) (numberOf k) (recount e (e .count + 1)) s (granted 0 0 0) [] nothing (omega arith)
-      (recount-good m e (e .count + 1) (inv .good (numberOf k)) full (omega (arith, ltb-true (e .count) 65535 (search))))
+      deed-put (clone k) (omega arith)
+      (recount-good m (inv .good (numberOf k)) full (omega (arith, ltb-true (e .count) 65535 (search))))
       full (record { kind = refl; base = refl; length = refl }) (kept refl (λ x h. refl) (λ h. (refl, refl))) (λ i x sh nr tc ins. tc)
   deed-granted (release k) b nr h = deed-release k b
   deed-granted (lock k u) b nr h =

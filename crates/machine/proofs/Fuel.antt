@@ -26,26 +26,6 @@ use Rattle.machine.proofs.TableLaws.{at-other}
 
 -- ---- up a line
 
--- two fuels above the first entry's nonce give the same line
-pub walk-fuel : (f g m : ℕ) (t : List ℕ) (n : ℕ) → at t n .nonce < f → at t n .nonce < g → walk f m t n ≡ walk g m t n
-unfolding walk
-walk-fuel zero g m t n h i = absurd (omega arith)
-walk-fuel (suc f) zero m t n h i = absurd (omega arith)
-walk-fuel (suc f) (suc g) m t n h i =
-    by-both Same (illFormed m (at t n)) (λ w. refl)
-    (λ w. by-both Same (eqb (at t n .kind) 1) (λ d. refl)
-    (λ d. by-both Same (linked t (at t n))
-    (λ l. let o : at t (parentNumber (at t n)) .nonce < at t n .nonce = link (at t n) (parent t n) l .older in
-    walk-fuel f g m t (parentNumber (at t n)) (omega arith) (omega arith))
-    (λ l. refl)))
-  where
-    Same : Line → Line → Type 0
-    Same x y = x ≡ y
-
--- more than what `lineOf` walks with changes nothing
-pub line-enough : (f m : ℕ) (t : List ℕ) (n : ℕ) → at t n .nonce < f → walk f m t n ≡ lineOf m t n
-line-enough f m t n h = walk-fuel f (suc (at t n .nonce)) m t n h (omega arith)
-
 -- the first entry of a line that is not ill-formed is well-formed
 pub line-formed : (m : ℕ) (t : List ℕ) (n : ℕ) → not (isIll (lineOf m t n)) ≡ true → illFormed m (at t n) ≡ false
 unfolding walk
@@ -77,6 +57,26 @@ walk-owns (suc f) m t n k =
     kind-two : Laid (at t n .kind) → at t n .kind ≢ 1 → at t n .kind ≡ 2
     kind-two (one i) d = absurd (d i)
     kind-two (two i) d = i
+
+-- two fuels above the first entry's nonce give the same line
+pub walk-fuel : (f g m : ℕ) (t : List ℕ) (n : ℕ) → at t n .nonce < f → at t n .nonce < g → walk f m t n ≡ walk g m t n
+unfolding walk
+walk-fuel zero g m t n h i = absurd (omega arith)
+walk-fuel (suc f) zero m t n h i = absurd (omega arith)
+walk-fuel (suc f) (suc g) m t n h i =
+    by-both Same (illFormed m (at t n)) (λ w. refl)
+    (λ w. by-both Same (eqb (at t n .kind) 1) (λ d. refl)
+    (λ d. by-both Same (linked t (at t n))
+    (λ l. let o : at t (parentNumber (at t n)) .nonce < at t n .nonce = link (at t n) (parent t n) l .older in
+    walk-fuel f g m t (parentNumber (at t n)) (omega arith) (omega arith))
+    (λ l. refl)))
+  where
+    Same : Line → Line → Type 0
+    Same x y = x ≡ y
+
+-- more than what `lineOf` walks with changes nothing
+pub line-enough : (f m : ℕ) (t : List ℕ) (n : ℕ) → at t n .nonce < f → walk f m t n ≡ lineOf m t n
+line-enough f m t n h = walk-fuel f (suc (at t n .nonce)) m t n h (omega arith)
 
 -- two fuels above the first entry's nonce give the same table
 pub climb-fuel : (f g : ℕ) (t : List ℕ) (n : ℕ) → at t n .nonce < f → at t n .nonce < g → climb f t n ≡ climb g t n

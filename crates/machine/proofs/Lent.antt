@@ -42,19 +42,19 @@ module _ (P : List ℕ → Type 0) (puts : (t : List ℕ) (n : ℕ) (e : Entry) 
       (λ d. by-cond P (linked t (at t n)) (λ l. climbed f (put t n free) (parentNumber (at t n)) (puts t n free h)) (λ l. puts t n free h))))
 
   granted-table : (m : ℕ) (s : State) (t : List ℕ) (q : Request) (b : List ℕ) → P t → P (grant m s t q b .table)
-  granted-table m s t (reset k0 k1 ν) b h = puts _ _ _ (clears t h)
+  granted-table m s t (reset k0 k1 ν) b h = search (puts, clears)
   granted-table m s t (access w k u) b h = h
   granted-table m s t (create k u l x p c) b h =
-      by-cond (λ (d : Decision). P (d .table)) (eqb l (at t (numberOf k) .length)) (λ e. puts _ _ _ (puts t _ _ h)) (λ e. puts _ _ _ (puts t _ _ h))
-  granted-table m s t (merge j k u c) b h = puts _ _ _ (puts t _ _ h)
-  granted-table m s t (derive k o l p c) b h = puts _ _ _ (puts t _ _ h)
-  granted-table m s t (executeOnly k c) b h = puts _ _ _ (puts t _ _ h)
-  granted-table m s t (clone k) b h = puts t _ _ h
+      by-cond (λ (d : Decision). P (d .table)) (eqb l (at t (numberOf k) .length)) (λ e. search (puts)) (λ e. search (puts))
+  granted-table m s t (merge j k u c) b h = search (puts)
+  granted-table m s t (derive k o l p c) b h = search (puts)
+  granted-table m s t (executeOnly k c) b h = search (puts)
+  granted-table m s t (clone k) b h = search (puts)
   granted-table m s t (release k) b h =
       by-cond P (eqb (at t (numberOf k) .count) 1 && isLocked t (lineOf m t (numberOf k))) (λ e. h) (λ e. climbed (suc (at t (numberOf k) .nonce)) t (numberOf k) h)
-  granted-table m s t (lock k u) b h = puts t _ _ h
-  granted-table m s t (unlock k u) b h = puts t _ _ h
-  granted-table m s t (revoke k c) b h = puts t _ _ h
+  granted-table m s t (lock k u) b h = search (puts)
+  granted-table m s t (unlock k u) b h = search (puts)
+  granted-table m s t (revoke k c) b h = search (puts)
 
   pub table-after : (σ : Machine) (q : Call) → P (σ .table) → P (step σ q .table)
   unfolding step
@@ -93,7 +93,7 @@ effect-fits m s t (clone k) b h = tt
 effect-fits m s t (release k) b h = tt
 effect-fits m s t (lock k u) b h = tt
 effect-fits m s t (unlock k u) b h = tt
-effect-fits m s t (revoke k c) b h = λ i. bytes-zeros (at t (numberOf k) .length)
+effect-fits m s t (revoke k c) b h = λ i. search (bytes-zeros)
 
 decided-fits : (σ : Machine) (q : Call) → EffectFits (length (σ .memory)) (q .buffer) (decision σ q .effect)
 decided-fits σ q =

@@ -2,7 +2,6 @@
 -- Assumes nothing.
 use mathlib.Core.Path.{_≡_, refl, sym, ap, subst, _∙_}
 use mathlib.Core.Logic.{_≢_}
-use mathlib.Core.Bool.{true}
 use mathlib.Core.List.{List, [], _∷_, _++_, List·Memᴰ, Memᴰ·append-left, Memᴰ·append-right}
 use Prim.Native.Nat.{ℕ, _≤_, _<_}
 use native.Mathlib.Omega.{arith}
@@ -12,10 +11,10 @@ use borrow.Author.Tests.{leb-true}
 use Rattle.layout.specs.declared.entry.Entry.{Entry}
 use Rattle.machine.specs.Demand3.{Accepted, IsReset, issuedIn, NoReset, resetCall}
 use Rattle.machine.specs.FromReset.{ownedInAll}
-use Rattle.machine.specs.Operations.{grantReset, nameOf, nothing}
+use Rattle.machine.specs.Operations.{grantReset, nameOf}
 use Rattle.machine.specs.Parts.{at, cleared, mostEntries, mostMemory, put, root, size, State}
 use Rattle.machine.specs.Requests.{Call, Request, reset}
-use Rattle.machine.specs.Steps.{decide, decision, Machine, refused, run, step}
+use Rattle.machine.specs.Steps.{decide, decision, Machine, run, step}
 use Rattle.machine.specs.Stops.{checks}
 use Rattle.machine.proofs.Basics.{put-all}
 use Rattle.machine.proofs.Decided.{accepted, decided, Passed}
@@ -31,7 +30,7 @@ use Rattle.machine.proofs.Written.{direct-good, free-good, Good}
 
 pub deed : (m : ℕ) (s : State) (t : List ℕ) (q : Request) (b : List ℕ) → Inv m s t → (IsReset q → ⊥) → Deed m s t q (decide m s t q b)
 deed m s t q b inv nr =
-    decided (Deed m s t q) m s t q b (deed-granted m s t inv q b nr) (λ r p told. deed-none m s t inv q (refused s t r p .reply) nothing (λ n x sh nr tc ins. tc))
+    decided (Deed m s t q) m s t q b (deed-granted m s t inv q b nr) (λ r p told. deed-none m s t inv q (omega arith) (λ n x sh nr tc ins. tc))
 
 -- what holds of a machine from reset on
 abbrev pub Well : Machine → Type 0
@@ -134,7 +133,7 @@ module _ (m : ℕ) (t : List ℕ) (k0 k1 ν : ℕ) (lo : 1 ≤ m) (hi : m ≤ mo
   clean = put (cleared t) 0 (root m)
 
   root-good : Good m (root m)
-  root-good = direct-good m 0 m 0 7 true 0 0 hi lo (omega arith) (omega arith) (omega arith) (omega arith) (omega arith)
+  root-good = direct-good m hi lo (omega arith) (omega arith) (omega arith) (omega arith) (omega arith)
 
   there : at clean 0 ≡ root m
   there = at-same (cleared t) 0 (root m) (root-good .storable) (omega (arith, size-cleared t))
