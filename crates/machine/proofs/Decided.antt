@@ -1,20 +1,22 @@
 -- A request is granted, with all its checks passed, or refused, with one of 01's numbers.
 -- Assumes nothing.
-use mathlib.Core.Path.{_≡_, refl}
+use mathlib.Core.Path.{_≡_, refl, ap, _∙_}
 use mathlib.Core.Logic.{_≢_}
 use mathlib.Core.Bool.{Bool, true, false, not, _&&_}
 use mathlib.Core.List.{List, [], _∷_}
 use Prim.Native.Nat.{ℕ, _≤_}
 use native.Mathlib.Omega.{arith}
 use lib.Dec.{eqb, leb}
+use lib.ListN.{length}
 use borrow.Author.Tests.{eqb-false, leb-true, not-true}
 use Rattle.layout.proofs.TestLaws.{both}
+use Rattle.machine.specs.Demand3.{Accepted}
 use Rattle.machine.specs.Line.{badPlace, dead, ill, isDead, isIll, Line, lineOf, owner, whose}
-use Rattle.machine.specs.Operations.{Decision, grant}
-use Rattle.machine.specs.Parts.{State}
+use Rattle.machine.specs.Operations.{Decision, grant, numberOf}
+use Rattle.machine.specs.Parts.{at, State}
 use Rattle.machine.specs.Refusals.{Told}
-use Rattle.machine.specs.Requests.{access, clone, create, derive, executeOnly, lock, merge, release, Request, reset, revoke, unlock}
-use Rattle.machine.specs.Steps.{decide, pass, refused, settle, stop, Verdict, verdict}
+use Rattle.machine.specs.Requests.{access, Call, clone, create, derive, executeOnly, lock, merge, release, Request, reset, revoke, unlock}
+use Rattle.machine.specs.Steps.{answer, decide, decision, Machine, pass, refused, settle, stop, Verdict, verdict}
 use Rattle.machine.specs.Stops.{Check, checks, need, needLine}
 use Rattle.machine.proofs.Choices.{by-cond}
 
@@ -89,3 +91,50 @@ pub decided : (P : Decision → Type 0) (m : ℕ) (s : State) (t : List ℕ) (q 
     → P (decide m s t q b)
 unfolding decide
 decided P m s t q b f g = by-verdict (λ (v : Verdict). P (settle v m s t q b)) (checks m s t q b) (all-proper m s t q b) f g
+
+-- what is granted is no refusal
+granted-zero : (m : ℕ) (s : State) (t : List ℕ) (q : Request) (b : List ℕ) → grant m s t q b .reply .refusal ≡ 0
+granted-zero m s t (reset k0 k1 ν) b = refl
+granted-zero m s t (access w k u) b = refl
+granted-zero m s t (create k u l x p c) b =
+    by-cond (λ (d : Decision). d .reply .refusal ≡ 0) (eqb l (at t (numberOf k) .length)) (λ e. refl) (λ e. refl)
+granted-zero m s t (merge j k u c) b = refl
+granted-zero m s t (derive k o l p c) b = refl
+granted-zero m s t (executeOnly k c) b = refl
+granted-zero m s t (clone k) b = refl
+granted-zero m s t (release k) b = refl
+granted-zero m s t (lock k u) b = refl
+granted-zero m s t (unlock k u) b = refl
+granted-zero m s t (revoke k c) b = refl
+
+-- ---- a call
+
+module _ (σ : Machine) (q : Call) where
+  abbrev cs : List Check
+  cs = checks (length (σ .memory)) (σ .state) (σ .table) (q .request) (q .buffer)
+
+  abbrev given : Decision
+  given = grant (length (σ .memory)) (σ .state) (σ .table) (q .request) (q .buffer)
+
+  -- it is accepted, having passed its checks, and does what `grant` says; or it is refused
+  pub data Turned : Type 0 where
+    taken : Accepted σ q → Passed cs → decision σ q ≡ given → Turned
+    away : (r p : ℕ) → Told r p → decision σ q ≡ refused (σ .state) (σ .table) r p → (Accepted σ q → ⊥) → Turned
+
+  pub turned : Turned
+  unfolding answer
+  turned =
+      decided (λ (d : Decision). decision σ q ≡ d → Turned) (length (σ .memory)) (σ .state) (σ .table) (q .request) (q .buffer)
+      (λ p e. taken (ap number e ∙ granted-zero (length (σ .memory)) (σ .state) (σ .table) (q .request) (q .buffer)) p e)
+      (λ r p told e. away r p told e (λ a. omega (arith, told .least, ap number e)))
+      refl
+    where
+      number : Decision → ℕ
+      number d = d .reply .refusal
+
+  pub accepted : Accepted σ q → Passed cs × (decision σ q ≡ given)
+  accepted a = go turned
+    where
+      go : Turned → Passed cs × (decision σ q ≡ given)
+      go (taken b p e) = (p, e)
+      go (away r p told e n) = absurd (n a)

@@ -2,15 +2,15 @@
 -- Assumes nothing.
 use mathlib.Core.Path.{_≡_, refl, sym, ap, subst, _∙_}
 use mathlib.Core.Logic.{_≢_}
-use mathlib.Core.List.{List, [], _∷_, List·Memᴰ·head, List·Memᴰ·tail}
-use mathlib.Core.Bool.{Bool, true, false, not, _&&_, cond}
-use Prim.Native.Nat.{ℕ, zero, suc, _+_, _-_, _≤_, _<_, _^_}
+use mathlib.Core.List.{List, [], List·Memᴰ·head, List·Memᴰ·tail}
+use mathlib.Core.Bool.{Bool, true, false, false≢true, not, _&&_, cond}
+use Prim.Native.Nat.{ℕ, zero, suc, _+_, _≤_, _<_, _^_}
 use native.Mathlib.Omega.{arith}
 use native.Mathlib.Decide.{decLt, ℕ-discrete}
-use lib.Bits.{and-le-l, bitAnd}
-use lib.Dec.{T, leb, ltb, eqb, leb→le, ltb→lt, eqb→eq, nltb→le}
-use lib.ListN.{length, replicate, length-replicate}
-use borrow.Author.Tests.{ne-eqb}
+use lib.Bits.{and-le-l}
+use lib.Dec.{leb, ltb, eqb}
+use lib.ListN.{length, length-replicate}
+use borrow.Author.Tests.{eqb-false, eqb-true, leb-true, ltb-false, ltb-true, ne-eqb, not-true}
 use Rattle.layout.specs.Entry.{direct, directFields, directWidths, free}
 use Rattle.layout.specs.Fields.{Fit}
 use Rattle.layout.specs.Permissions.{X}
@@ -20,15 +20,18 @@ use Rattle.machine.specs.Demand3.{above, In, IsReset, itself, Owns, Revo
 use Rattle.machine.specs.FromReset.{Has, Inside, owned}
 use Rattle.machine.specs.Issuing.{newNumber}
 use Rattle.machine.specs.Line.{dead, ill, isLocked, Line, linked, lineOf, lockedFrom, owner, ownerOf, parentNumber}
-use Rattle.machine.specs.Operations.{childOf, climb, Effect, fresh, grant, grantCreate, grantDerive, granted, grantLock, grantMerge, grantRevoke, mergedOf, Name, namedEntry, nameOf, nothing, numberOf, partOf, recount, relock, Reply, restOf, revokedOf, revokeNonce, store, tokenOf, transfer}
-use Rattle.machine.specs.Parts.{at, moved, put, size, spent, State}
+use Rattle.machine.specs.Operations.{childOf, climb, Effect, grant, grantCreate, grantDerive, grantLock, grantMerge, grantRevoke, mergedOf, Name, namedEntry, nothing, numberOf, partOf, Reply, restOf, revokedOf, revokeNonce, transfer}
+use Rattle.machine.specs.Parts.{at, put, size, spent, State}
 use Rattle.machine.specs.Requests.{access, clone, create, derive, executeOnly, fetching, lock, merge, reading, release, Request, reset, revoke, taskOf, unlock, Way, writing}
 use Rattle.machine.specs.Stops.{checks}
-use Rattle.machine.proofs.Basics.{by-both, by-cond, Live, neqb→ne, owner-direct, parent, pass-up, Passed, put-all, put2-all, seek-free, T-false, walk-owns}
+use Rattle.machine.proofs.Basics.{neqb-true, owner-direct, parent, put-all, put2-all, range}
+use Rattle.machine.proofs.Choices.{by-both, by-cond}
+use Rattle.machine.proofs.Decided.{Passed}
 use Rattle.machine.proofs.Fates.{core, Deed, Fate, gone, Inv, issued, kept, Shut, Source, Touches}
+use Rattle.machine.proofs.Fuel.{Live, number-first, revoke-least, walk-owns}
 use Rattle.machine.proofs.Sums.{owned-direct, owned-other, sum-put2, sum-same}
 use Rattle.machine.proofs.TableLaws.{at-other, in-table, put-out, size-put}
-use Rattle.machine.proofs.Written.{direct-fit, fitting, free-good, Good, issue-direct, issue-indirect, parent-named, range, recount-good, relock-good}
+use Rattle.machine.proofs.Written.{direct-fit, fitting, free-good, Good, issue-direct, issue-indirect, parent-named, recount-good, relock-good}
 
 -- nobody's bytes go to another owner
 abbrev stay : ℕ → ℕ → ℕ
@@ -52,10 +55,10 @@ owner-range m s t inv x (above {n = n} l o) h =
     owner-range m s t inv x o (omega arith)
 
 -- the owner of a line that is open to u is not locked for another task than u
-owner-open : (t : List ℕ) (l : Line) (u : ℕ) → Live l → T (not (lockedFrom t u l)) → Shut u (at t (ownerOf l)) → ⊥
-owner-open t (owner k) u v o h = rw (h .locked, ne-eqb (at t k .holder) u (h .other)) at o
-owner-open t (dead k) u v o h = absurd (v .1)
-owner-open t (ill k) u v o h = absurd (v .0)
+owner-open : (t : List ℕ) (l : Line) (u : ℕ) → Live l → not (lockedFrom t u l) ≡ true → Shut u (at t (ownerOf l)) → ⊥
+owner-open t (owner k) u v o h = false≢true (rw (h .locked, ne-eqb (at t k .holder) u (h .other)) at o)
+owner-open t (dead k) u v o h = false≢true (v .1)
+owner-open t (ill k) u v o h = false≢true (v .0)
 
 touched : (w : Way) (a : ℕ) (b : List ℕ) (x : ℕ) → Touches (transfer w a b) x → (a ≤ x) × (x < a + length b)
 touched reading a b x h = h
@@ -66,24 +69,24 @@ module _ (m : ℕ) (s : State) (t : List ℕ) (inv : Inv m s t) where
   unmoved : (q : Request) (ν : ℕ) (ks : List Name) (n : ℕ) → Fate s t q ν ks stay n (at t n)
   unmoved q ν ks n = kept refl (λ x h. refl) (λ h. (refl, refl))
 
-  owns : (n : ℕ) → T (not (eqb (at t n .kind) 0)) → Live (lineOf m t n) → Owns t n (ownerOf (lineOf m t n))
-  owns n k v = walk-owns (suc (at t n .nonce)) m t n (neqb→ne (at t n .kind) 0 k) v
+  owns : (n : ℕ) → not (eqb (at t n .kind) 0) ≡ true → Live (lineOf m t n) → Owns t n (ownerOf (lineOf m t n))
+  owns n k v = walk-owns (suc (at t n .nonce)) m t n (neqb-true (at t n .kind) 0 k) v
 
   -- no entry is written
-  pub deed-none : (q : Request) (r : Reply) (f : Effect)
+  pub deed-none : (q : Request) {s′ : State} {r : Reply} {f : Effect} → s .next ≤ s′ .next
       → ((n x : ℕ) → Shut (taskOf q) (at t n) → (Revokes q n → ⊥) → Touches f x → In (at t n) x → ⊥)
-      → Deed m s t q (record { state = s; table = t; reply = r; issued = []; effect = f })
-  deed-none q r f sp =
-      record { up = omega arith; moves = stay; fate = unmoved q (s .next) []; carried = λ n x h. h; spared = sp; good = inv .good; long = refl; sum = refl }
+      → Deed m s t q (record { state = s′; table = t; reply = r; issued = []; effect = f })
+  deed-none q {s′} up sp =
+      record { up = up; moves = stay; fate = unmoved q (s′ .next) []; carried = λ n x h. h; spared = sp; good = inv .good; long = refl; sum = refl }
 
   deed-access : (w : Way) (k u : ℕ) (b : List ℕ) → Passed (checks m s t (access w k u) b) → Deed m s t (access w k u) (grant m s t (access w k u) b)
   deed-access w k u b h =
-      deed-none (access w k u) (granted 0 0 0) (transfer w (at t n .base + named k .offset) b)
+      deed-none (access w k u) (omega arith)
       (λ i x sh nr tc ins.
       let live : Live l = (search, search) in
       let o : Owns t n (ownerOf l) = owns n (search) live in
       let tc′ : (at t n .base + named k .offset ≤ x) × (x < at t n .base + named k .offset + length b) = touched w (at t n .base + named k .offset) b x tc in
-      let here : In (at t n) x = omega (arith, leb→le (named k .offset + length b) (at t n .length) (search)) in
+      let here : In (at t n) x = omega (arith, leb-true (named k .offset + length b) (at t n .length) (search)) in
       let e : ownerOf l ≡ i = inv .tiled (ownerOf l) i x (record { direct = owner-direct o; inside = owner-range m s t inv x o here }) (record { direct = sh .direct; inside = ins }) in
       owner-open t l u live (search) (rw e sh))
     where
@@ -98,11 +101,11 @@ module _ (m : ℕ) (s : State) (t : List ℕ) (inv : Inv m s t) where
 
   -- ---- one entry is written, over the segment that it had
 
-  deed-put : (q : Request) (n : ℕ) (e : Entry) (s′ : State) (r : Reply) (ks : List Name) (f : Effect) → s .next ≤ s′ .next → Good m e → at t n .kind ≢ 0 → Over e (at t n)
+  deed-put : (q : Request) {n : ℕ} {e : Entry} {s′ : State} {r : Reply} {ks : List Name} {f : Effect} → s .next ≤ s′ .next → Good m e → at t n .kind ≢ 0 → Over e (at t n)
       → Fate s t q (s′ .next) ks stay n e
       → ((i x : ℕ) → Shut (taskOf q) (at t i) → (Revokes q i → ⊥) → Touches f x → In (at t i) x → ⊥)
       → Deed m s t q (record { state = s′; table = put t n e; reply = r; issued = ks; effect = f })
-  deed-put q n e s′ r ks f up good full o fate sp =
+  deed-put q {n} {e} {s′} {r} {ks} {f} up good full o fate sp =
       record {
         up = up;
         moves = stay;
@@ -126,12 +129,12 @@ module _ (m : ℕ) (s : State) (t : List ℕ) (inv : Inv m s t) where
     first : p ≡ k → Holds a x → Lands p n a b k x
     second : n ≡ k → Holds b x → Lands p n a b k x
 
-  deed-put2 : (q : Request) (p n : ℕ) (a b : Entry) (s′ : State) (r : Reply) (ks : List Name) (g : ℕ → ℕ → ℕ) → s .next ≤ s′ .next → Good m a → Good m b → p < size t → n < size t → p ≢ n
+  deed-put2 : (q : Request) {p n : ℕ} {a b : Entry} {s′ : State} {r : Reply} {ks : List Name} (g : ℕ → ℕ → ℕ) → s .next ≤ s′ .next → Good m a → Good m b → p < size t → n < size t → p ≢ n
       → owned a + owned b ≡ owned (at t p) + owned (at t n)
       → Fate s t q (s′ .next) ks g n b → Fate s t q (s′ .next) ks g p a → ((i : ℕ) → i ≢ n → i ≢ p → (x : ℕ) → i ≡ g i x)
       → ((x : ℕ) → Has t n x → Lands p n a b (g n x) x) → ((x : ℕ) → Has t p x → Lands p n a b (g p x) x)
       → Deed m s t q (record { state = s′; table = put (put t p a) n b; reply = r; issued = ks; effect = nothing })
-  deed-put2 q p n a b s′ r ks g up ga gb hp hn d sum nb pa others cn cp =
+  deed-put2 q {p} {n} {a} {b} {s′} {r} {ks} g up ga gb hp hn d sum nb pa others cn cp =
       record {
         up = up;
         moves = g;
@@ -161,9 +164,6 @@ module _ (m : ℕ) (s : State) (t : List ℕ) (inv : Inv m s t) where
           let c : Holds (at (put (put t p a) n b) i) x = rw (at-other (put t p a) n i b e, at-other t p i a f) (has h) in
           rw (← others i e f x) (record { direct = c .0; inside = c .1 })
 
-  free-new : newNumber s t ≢ 0 → (at t (newNumber s t) .kind ≡ 0) × (newNumber s t < size t)
-  free-new f = seek-free (size t - 1) t (s .last) (inv .least) f
-
   apart : {n p : ℕ} → at t n .kind ≢ 0 → at t p .kind ≡ 0 → p ≢ n
   apart k z e = k (rw (← e) z)
 
@@ -174,23 +174,22 @@ module _ (m : ℕ) (s : State) (t : List ℕ) (inv : Inv m s t) where
       let in-n : n < size t = in-table t n k in
       let most : size t ≤ 1024 = inv .most in
       let low : n < 1024 = omega arith in
-      let whole = range m (at t n) (inv .good n) k in
-      let named-n : parentNumber (childOf s t n o l p) ≡ n = parent-named m n (at t n) (at t n .base + o) l p (childOf s t n o l p .tag) (s .next) (inv .good n) low in
-      deed-put2 q (newNumber s t) n (childOf s t n o l p) (recount (at t n) (at t n .count + 1)) (moved s (newNumber s t) (s .next + 1)) (granted (tokenOf c (newNumber s t) (childOf s t n o l p)) 0 0)
-      (nameOf (newNumber s t) (childOf s t n o l p) ∷ []) stay
+      let whole = range m (at t n) k (inv .good n .formed) in
+      let named-n : parentNumber (childOf s t n o l p) ≡ n = parent-named m n (at t n) (inv .good n) low in
+      deed-put2 q stay
       (omega arith)
-      (issue-indirect m s (newNumber s t) n (at t n) (at t n .base + o) l p (s .next) (inv .small) (inv .good n) low pos (omega arith) hp (omega arith))
-      (recount-good m (at t n) (at t n .count + 1) (inv .good n) k (omega arith))
-      (free-new f .1) in-n (apart k (free-new f .0))
-      (omega (arith, owned-other (at t (newNumber s t)) (omega (arith, free-new f .0))))
+      (issue-indirect m s (newNumber s t) n (inv .small) (inv .good n) low pos (omega arith) hp (omega arith))
+      (recount-good m (inv .good n) k (omega arith))
+      (number-first s t f .inside) in-n (apart k (number-first s t f .free))
+      (omega (arith, owned-other (at t (newNumber s t)) (omega (arith, number-first s t f .free))))
       (kept refl (λ x h. refl) (λ h. (refl, refl)))
       (issued (omega arith) (omega arith) (List·Memᴰ·head refl)
       (λ z. (refl, rw named-n (record { low = omega arith; high = omega arith })))
       (λ z. absurd (omega arith))
-      (λ h. absurd (omega (arith, h .direct, free-new f .0))))
+      (λ h. absurd (omega (arith, h .direct, number-first s t f .free))))
       (λ i j v x. refl)
       (λ x h. second refl (has h))
-      (λ x h. absurd (omega (arith, h .direct, free-new f .0)))
+      (λ x h. absurd (omega (arith, h .direct, number-first s t f .free)))
 
   -- create: the bytes of n before y go to p
   abbrev split : (n p y : ℕ) → ℕ → ℕ → ℕ
@@ -199,18 +198,18 @@ module _ (m : ℕ) (s : State) (t : List ℕ) (inv : Inv m s t) where
   split-front : (n p y x : ℕ) → x < y → p ≡ split n p y n x
   split-front n p y x h =
       by-cond (λ r. p ≡ r) (eqb n n)
-      (λ i. by-cond (λ r. p ≡ r) (ltb x y) (λ j. refl) (λ j. absurd (omega (arith, nltb→le x y j))))
-      (λ i. absurd (neqb→ne n n i refl))
+      (λ i. by-cond (λ r. p ≡ r) (ltb x y) (λ j. refl) (λ j. absurd (omega (arith, ltb-false x y j))))
+      (λ i. absurd (eqb-false n n i refl))
 
   split-back : (n p y x : ℕ) → y ≤ x → n ≡ split n p y n x
   split-back n p y x h =
       by-cond (λ r. n ≡ r) (eqb n n)
-      (λ i. by-cond (λ r. n ≡ r) (ltb x y) (λ j. absurd (omega (arith, ltb→lt x y j))) (λ j. refl))
+      (λ i. by-cond (λ r. n ≡ r) (ltb x y) (λ j. absurd (omega (arith, ltb-true x y j))) (λ j. refl))
       (λ i. refl)
 
   split-other : (n p y k x : ℕ) → k ≢ n → k ≡ split n p y k x
   split-other n p y k x h =
-      by-cond (λ r. k ≡ r) (eqb k n) (λ i. absurd (h (eqb→eq k n i))) (λ i. refl)
+      by-cond (λ r. k ≡ r) (eqb k n) (λ i. absurd (h (eqb-true k n i))) (λ i. refl)
 
   deed-create : (q : Request) (n l u p c : ℕ) → at t n .kind ≡ 1 → at t n .locked ≡ false → 0 < l → l ≤ at t n .length → newNumber s t ≢ 0
       → u < 2 ^ 64 → p < 8 → s .next + cond (eqb l (at t n .length)) 1 2 ≤ spent → Deed m s t q (grantCreate s t n l u p c)
@@ -218,29 +217,29 @@ module _ (m : ℕ) (s : State) (t : List ℕ) (inv : Inv m s t) where
       -- the number of nonces taken is 1 or 2 with the same test as the outcome
       by-both (λ d i. s .next + i ≤ spent → Deed m s t q d) (eqb l (at t n .length))
       (λ e v.
-      let same : l ≡ at t n .length = eqb→eq l (at t n .length) e in
-      deed-put2 q new n a free (moved s new (s .next + 1)) (granted (tokenOf c new a) 0 0) (nameOf new a ∷ []) (split n new y) (omega arith)
-      (a-good (omega arith)) (free-good m) (free-new f .1) in-n (apart (omega arith) (free-new f .0))
-      (omega (arith, owned-direct (at t n) k, owned-other (at t new) (omega (arith, free-new f .0))))
+      let same : l ≡ at t n .length = eqb-true l (at t n .length) e in
+      deed-put2 q (split n new y) (omega arith)
+      (a-good (omega arith)) (free-good m) (number-first s t f .inside) in-n (apart (omega arith) (number-first s t f .free))
+      (omega (arith, owned-direct (at t n) k, owned-other (at t new) (omega (arith, number-first s t f .free))))
       (gone refl unlocked)
       (issued (omega arith) (omega arith) (List·Memᴰ·head refl) (λ h. absurd (omega arith)) (λ h x i. part x i) (λ h. absurd (vacant h)))
       (λ i j v x. split-other n new y i x j)
       (λ x h. first (split-front n new y x (omega (arith, h .inside))) (refl, omega (arith, h .inside)))
-      (λ x h. absurd (omega (arith, h .direct, free-new f .0))))
+      (λ x h. absurd (omega (arith, h .direct, number-first s t f .free))))
       (λ e v.
-      let less : l ≢ at t n .length = neqb→ne l (at t n .length) e in
-      deed-put2 q new n a r (moved s new (s .next + 2)) (granted (tokenOf c new a) (tokenOf c n r) 0) (nameOf new a ∷ nameOf n r ∷ []) (split n new y) (omega arith)
+      let less : l ≢ at t n .length = eqb-false l (at t n .length) e in
+      deed-put2 q (split n new y) (omega arith)
       (a-good (omega arith))
-      (issue-direct m s n (at t n .base + l) (at t n .length - l) (at t n .user) (at t n .permissions) (at t n .lockable) (s .next + 1) (inv .small) (omega arith) (omega (arith, whole)) (omega (arith, fit)) (omega (arith, fit)) (omega arith))
-      (free-new f .1) in-n (apart (omega arith) (free-new f .0))
-      (omega (arith, owned-direct (at t n) k, owned-other (at t new) (omega (arith, free-new f .0))))
+      (issue-direct m s n (inv .small) (omega arith) (omega (arith, whole)) (omega (arith, fit)) (omega (arith, fit)) (omega arith))
+      (number-first s t f .inside) in-n (apart (omega arith) (number-first s t f .free))
+      (omega (arith, owned-direct (at t n) k, owned-other (at t new) (omega (arith, number-first s t f .free))))
       (issued (omega arith) (omega arith) (List·Memᴰ·tail (List·Memᴰ·head refl)) (λ h. absurd (omega arith))
       (λ h x i. record { from = n; has = record { direct = k; inside = omega arith }; to = split-back n new y x (i .0) })
       (λ h. absurd (unlocked h)))
       (issued (omega arith) (omega arith) (List·Memᴰ·head refl) (λ h. absurd (omega arith)) (λ h x i. part x i) (λ h. absurd (vacant h)))
       (λ i j v x. split-other n new y i x j)
       (λ x h. lands x h (decLt x y))
-      (λ x h. absurd (omega (arith, h .direct, free-new f .0))))
+      (λ x h. absurd (omega (arith, h .direct, number-first s t f .free))))
       hn
     where
       new : ℕ
@@ -256,7 +255,7 @@ module _ (m : ℕ) (s : State) (t : List ℕ) (inv : Inv m s t) where
       r = restOf s n (at t n) l
 
       whole : (0 < at t n .length) × (at t n .base + at t n .length ≤ m)
-      whole = range m (at t n) (inv .good n) (omega arith)
+      whole = range m (at t n) (omega arith) (inv .good n .formed)
 
       fit : Fit directWidths (directFields (at t n))
       fit = direct-fit m (at t n) (inv .good n) k
@@ -268,10 +267,10 @@ module _ (m : ℕ) (s : State) (t : List ℕ) (inv : Inv m s t) where
       unlocked h = let one : _≡_ {A = ℕ} 0 1 = cc (h .locked) in omega arith
 
       vacant : Shut (taskOf q) (at t new) → ⊥
-      vacant h = omega (arith, h .direct, free-new f .0)
+      vacant h = omega (arith, h .direct, number-first s t f .free)
 
       a-good : s .next < spent → Good m a
-      a-good h = issue-direct m s new (at t n .base) l u p (at t n .lockable) (s .next) (inv .small) pos (omega (arith, whole)) hu hp h
+      a-good h = issue-direct m s new (inv .small) (omega arith) (omega (arith, whole)) hu hp h
 
       part : (x : ℕ) → In a x → Source t (split n new y) new x
       part x i = record { from = n; has = record { direct = k; inside = omega arith }; to = split-front n new y x (i .1) }
@@ -288,20 +287,20 @@ module _ (m : ℕ) (s : State) (t : List ℕ) (inv : Inv m s t) where
   fuse-first n k x = by-cond (λ r. n ≡ r) (eqb n k) (λ i. refl) (λ i. refl)
 
   fuse-second : (n k x : ℕ) → n ≡ fuse n k k x
-  fuse-second n k x = by-cond (λ r. n ≡ r) (eqb k k) (λ i. refl) (λ i. absurd (neqb→ne k k i refl))
+  fuse-second n k x = by-cond (λ r. n ≡ r) (eqb k k) (λ i. refl) (λ i. absurd (eqb-false k k i refl))
 
   fuse-other : (n k i x : ℕ) → i ≢ k → i ≡ fuse n k i x
-  fuse-other n k i x h = by-cond (λ r. i ≡ r) (eqb i k) (λ j. absurd (h (eqb→eq i k j))) (λ j. refl)
+  fuse-other n k i x h = by-cond (λ r. i ≡ r) (eqb i k) (λ j. absurd (h (eqb-true i k j))) (λ j. refl)
 
   deed-merge : (q : Request) (n k c : ℕ) → at t n .kind ≡ 1 → at t k .kind ≡ 1 → at t n .locked ≡ false → at t k .locked ≡ false
       → at t k .base ≡ at t n .base + at t n .length → s .next + 1 ≤ spent → Deed m s t q (grantMerge s t n k c)
   deed-merge q n k c d d′ z z′ b hn =
-      let whole = range m (at t n) (inv .good n) (omega arith) in
-      let whole′ = range m (at t k) (inv .good k) (omega arith) in
+      let whole = range m (at t n) (omega arith) (inv .good n .formed) in
+      let whole′ = range m (at t k) (omega arith) (inv .good k .formed) in
       let fit : Fit directWidths (directFields (at t n)) = direct-fit m (at t n) (inv .good n) d in
-      deed-put2 q k n free a (moved s (s .last) (s .next + 1)) (granted (tokenOf c n a) 0 0) (nameOf n a ∷ []) (fuse n k) (omega arith)
+      deed-put2 q (fuse n k) (omega arith)
       (free-good m)
-      (issue-direct m s n (at t n .base) (at t n .length + at t k .length) (at t n .user) (bitAnd (at t n .permissions) (at t k .permissions)) (at t n .lockable) (s .next) (inv .small) (omega arith) (omega arith) (omega arith)
+      (issue-direct m s n (inv .small) (omega arith) (omega arith) (omega arith)
       (omega (arith, and-le-l (at t n .permissions) (at t k .permissions))) (omega arith))
       (in-table t k (omega arith)) (in-table t n (omega arith))
       (λ e. let same : at t k .base ≡ at t n .base = ap (λ (x : ℕ). at t x .base) e in omega arith)
@@ -344,8 +343,8 @@ module _ (m : ℕ) (s : State) (t : List ℕ) (inv : Inv m s t) where
     good : (n : ℕ) → Good m (at u′ n)
     long : size u′ ≡ size u
 
-  put-fades : (u : List ℕ) → ((n : ℕ) → Good m (at u n)) → (n : ℕ) (e : Entry) → Good m e → Fades (at u n) e → Fading u (put u n e)
-  put-fades u gs n e g h = go (decLt n (size u))
+  put-fades : (u : List ℕ) → ((n : ℕ) → Good m (at u n)) → (n : ℕ) {e : Entry} → Fades (at u n) e → Good m e → Fading u (put u n e)
+  put-fades u gs n {e} h g = go (decLt n (size u))
     where
       go : Dec (n < size u) → Fading u (put u n e)
       go (yes i) =
@@ -361,22 +360,21 @@ module _ (m : ℕ) (s : State) (t : List ℕ) (inv : Inv m s t) where
   climb-fades zero u n gs = record { each = λ k. same (at u k); good = gs; long = refl }
   climb-fades (suc f) u n gs =
       by-cond (Fading u) (leb 2 (at u n .count))
-      (λ i. put-fades u gs n (recount (at u n) (at u n .count - 1))
-      (recount-good m (at u n) (at u n .count - 1) (gs n) (fitting m (at u n) (gs n) .counted (omega (arith, leb→le 2 (at u n .count) i))) (omega (arith, fitting m (at u n) (gs n))))
-      (stays refl refl refl))
+      (λ i. put-fades u gs n (stays refl refl refl)
+      (recount-good m (gs n) (fitting m (at u n) (gs n) .counted (omega (arith, leb-true 2 (at u n .count) i))) (omega (arith, fitting m (at u n) (gs n)))))
       (λ i. by-cond (Fading u) (eqb (at u n .count) 0) (λ z. record { each = λ k. same (at u k); good = gs; long = refl })
       (λ z. by-cond (Fading u) (eqb (at u n .kind) 1)
-      (λ j. put-fades u gs n (recount (at u n) 0) (recount-good m (at u n) 0 (gs n) (omega (arith, eqb→eq (at u n .kind) 1 j)) (omega arith)) (stays refl refl refl))
+      (λ j. put-fades u gs n (stays refl refl refl) (recount-good m (gs n) (omega (arith, eqb-true (at u n .kind) 1 j)) (omega arith)))
       (λ j.
-      let once : Fading u (put u n free) = put-fades u gs n free (free-good m) (freed refl (neqb→ne (at u n .kind) 1 j)) in
+      let once : Fading u (put u n free) = put-fades u gs n (freed refl (eqb-false (at u n .kind) 1 j)) (free-good m) in
       by-cond (Fading u) (linked u (at u n))
       (λ v.
       let more : Fading (put u n free) (climb f (put u n free) (parentNumber (at u n))) = climb-fades f (put u n free) (parentNumber (at u n)) (once .good) in
       record { each = λ k. fades-fades (once .each k) (more .each k); good = more .good; long = more .long ∙ once .long })
       (λ v. once))))
 
-  deed-fading : (q : Request) (t′ : List ℕ) (r : Reply) → Fading t t′ → Deed m s t q (record { state = s; table = t′; reply = r; issued = []; effect = nothing })
-  deed-fading q t′ r f =
+  deed-fading : (q : Request) {t′ : List ℕ} {r : Reply} → Fading t t′ → Deed m s t q (record { state = s; table = t′; reply = r; issued = []; effect = nothing })
+  deed-fading q {t′} f =
       record {
         up = omega arith;
         moves = stay;
@@ -405,7 +403,7 @@ module _ (m : ℕ) (s : State) (t : List ℕ) (inv : Inv m s t) where
       let n : ℕ = numberOf k in
       let one : Bool = eqb (at t n .count) 1 in
       let locked : Bool = isLocked t (lineOf m t n) in
-      deed-fading (release k) (cond (one && locked) t (climb (suc (at t n .nonce)) t n)) (granted 0 0 (cond (one && not locked) 1 0))
+      deed-fading (release k)
       (by-cond (Fading t) (one && locked)
       (λ i. record { each = λ n. same (at t n); good = inv .good; long = refl })
       (λ i. climb-fades (suc (at t n .nonce)) t n (inv .good)))
@@ -414,29 +412,28 @@ module _ (m : ℕ) (s : State) (t : List ℕ) (inv : Inv m s t) where
 
   pub revoked-good : (n : ℕ) → at t n .kind ≡ 1 → revokeNonce s t n < spent → Good m (revokedOf s t n)
   revoked-good n d hn =
-      let whole = range m (at t n) (inv .good n) (omega arith) in
-      issue-direct m s n (at t n .base) (at t n .length) 0 7 true (revokeNonce s t n) (inv .small) (whole .0) (whole .1) (omega arith) (omega arith) hn
+      let whole = range m (at t n) (omega arith) (inv .good n .formed) in
+      issue-direct m s n (inv .small) (whole .0) (whole .1) (omega arith) (omega arith) (omega arith)
 
   deed-revoke : (k c : ℕ) → at t (numberOf k) .kind ≡ 1 → revokeNonce s t (numberOf k) < spent → Deed m s t (revoke k c) (grantRevoke s t (numberOf k) c)
   deed-revoke k c d hn =
       let n : ℕ = numberOf k in
-      let up : s .next ≤ revokeNonce s t n = pass-up (spent - s .next) s n (fresh (at t n)) (at t n .tag) (s .next) in
-      deed-put (revoke k c) n (revokedOf s t n) (moved s (s .last) (revokeNonce s t n + 1)) (granted (tokenOf c n (revokedOf s t n)) 0 0) (nameOf n (revokedOf s t n) ∷ [])
-      (store (at t n .base) (replicate (at t n .length) 0)) (omega arith)
+      let up : s .next ≤ revokeNonce s t n = revoke-least s t n in
+      deed-put (revoke k c) (omega arith)
       (revoked-good n d hn)
       (omega arith)
       (record { kind = sym d; base = refl; length = refl })
-      (issued up (omega arith) (List·Memᴰ·head refl) (λ h. absurd (omega arith)) (λ h x i. record { from = n; has = record { direct = d; inside = i }; to = refl }) (λ h. refl))
-      (λ i x sh nr tc ins. nr (inv .tiled n i x (record { direct = d; inside = (tc .0, omega (arith, tc .1, length-replicate {A = ℕ} (at t n .length) 0)) }) (record { direct = sh .direct; inside = ins })))
+      (issued (omega arith) (omega arith) (List·Memᴰ·head refl) (λ h. absurd (omega arith)) (λ h x i. record { from = n; has = record { direct = d; inside = i }; to = refl }) (λ h. refl))
+      (λ i x sh nr tc ins. nr (inv .tiled n i x (record { direct = d; inside = (tc .0, omega (arith, simp (length-replicate) at (tc .1))) }) (record { direct = sh .direct; inside = ins })))
 
   -- lock and unlock write the lock at the owner of a line that is open to the task
-  deed-lock : (q : Request) (n : ℕ) (locked : Bool) (h : ℕ) → T (not (eqb (at t n .kind) 0)) → Live (lineOf m t n) → T (not (lockedFrom t (taskOf q) (lineOf m t n)))
+  deed-lock : (q : Request) (n : ℕ) (locked : Bool) (h : ℕ) → not (eqb (at t n .kind) 0) ≡ true → Live (lineOf m t n) → not (lockedFrom t (taskOf q) (lineOf m t n)) ≡ true
       → h < 2 ^ 55 → (locked && eqb h 0) ≡ false → (not locked && not (eqb h 0)) ≡ false → Deed m s t q (grantLock s t (ownerOf (lineOf m t n)) locked h)
   deed-lock q n locked h k v o hh a b =
       let l : Line = lineOf m t n in
       let d : at t (ownerOf l) .kind ≡ 1 = owner-direct (owns n k v) in
-      deed-put q (ownerOf l) (relock (at t (ownerOf l)) locked h) s (granted 0 0 0) [] nothing (omega arith)
-      (relock-good m (at t (ownerOf l)) locked h (inv .good (ownerOf l)) d hh a b)
+      deed-put q (omega arith)
+      (relock-good m (inv .good (ownerOf l)) d hh a b)
       (omega arith)
       (record { kind = refl; base = refl; length = refl })
       (kept refl (λ x h. refl) (λ i. absurd (owner-open t l (taskOf q) v o i)))
@@ -450,54 +447,54 @@ module _ (m : ℕ) (s : State) (t : List ℕ) (inv : Inv m s t) where
   deed-granted (create k u l x p c) b nr h =
       let e : Entry = namedEntry t k in
       deed-create (create k u l x p c) (numberOf k) l x p c
-      (eqb→eq (e .kind) 1 (search))
-      (T-false (search))
-      (omega (arith, neqb→ne l 0 (search)))
-      (leb→le l (e .length) (search))
-      (neqb→ne (newNumber s t) 0 (search))
-      (ltb→lt x (2 ^ 64) (search))
-      (omega (arith, leb→le p 7 (search)))
-      (leb→le (s .next + cond (eqb l (e .length)) 1 2) spent (search))
+      (eqb-true (e .kind) 1 (search))
+      (not-true _ (search))
+      (omega (arith, neqb-true l 0 (search)))
+      (leb-true l (e .length) (search))
+      (neqb-true (newNumber s t) 0 (search))
+      (ltb-true x (2 ^ 64) (search))
+      (omega (arith, leb-true p 7 (search)))
+      (leb-true (s .next + cond (eqb l (e .length)) 1 2) spent (search))
   deed-granted (merge j k u c) b nr h =
       let d : Entry = namedEntry t j in
       let e : Entry = namedEntry t k in
       deed-merge (merge j k u c) (numberOf j) (numberOf k) c
-      (eqb→eq (d .kind) 1 (search))
-      (eqb→eq (e .kind) 1 (search))
-      (T-false (search))
-      (T-false (search))
-      (eqb→eq (e .base) (d .base + d .length) (search))
-      (leb→le (s .next + 1) spent (search))
+      (eqb-true (d .kind) 1 (search))
+      (eqb-true (e .kind) 1 (search))
+      (not-true _ (search))
+      (not-true _ (search))
+      (eqb-true (e .base) (d .base + d .length) (search))
+      (leb-true (s .next + 1) spent (search))
   deed-granted (derive k o l p c) b nr h =
       let e : Entry = namedEntry t k in
       deed-derive (derive k o l p c) (numberOf k) o l p c
-      (neqb→ne (e .kind) 0 (search))
-      (neqb→ne (newNumber s t) 0 (search))
-      (omega (arith, neqb→ne l 0 (search)))
-      (omega (arith, ltb→lt (l + o) (e .length) (search)))
-      (omega (arith, leb→le p 7 (search)))
-      (ltb→lt (e .count) 65535 (search))
-      (leb→le (s .next + 1) spent (search))
+      (neqb-true (e .kind) 0 (search))
+      (neqb-true (newNumber s t) 0 (search))
+      (omega (arith, neqb-true l 0 (search)))
+      (omega (arith, ltb-true (l + o) (e .length) (search)))
+      (omega (arith, leb-true p 7 (search)))
+      (ltb-true (e .count) 65535 (search))
+      (leb-true (s .next + 1) spent (search))
   deed-granted (executeOnly k c) b nr h =
       let e : Entry = namedEntry t k in
-      let full : e .kind ≢ 0 = neqb→ne (e .kind) 0 (search) in
+      let full : e .kind ≢ 0 = neqb-true (e .kind) 0 (search) in
       deed-derive (executeOnly k c) (numberOf k) 0 (e .length) X c
       full
-      (neqb→ne (newNumber s t) 0 (search))
-      (range m e (inv .good (numberOf k)) full .0)
+      (neqb-true (newNumber s t) 0 (search))
+      (range m e full (inv .good (numberOf k) .formed) .0)
       (omega arith)
       (omega arith)
-      (ltb→lt (e .count) 65535 (search))
-      (leb→le (s .next + 1) spent (search))
+      (ltb-true (e .count) 65535 (search))
+      (leb-true (s .next + 1) spent (search))
   deed-granted (clone k) b nr h =
       let e : Entry = namedEntry t k in
-      let full : e .kind ≢ 0 = neqb→ne (e .kind) 0 (search) in
-      deed-put (clone k) (numberOf k) (recount e (e .count + 1)) s (granted 0 0 0) [] nothing (omega arith)
-      (recount-good m e (e .count + 1) (inv .good (numberOf k)) full (omega (arith, ltb→lt (e .count) 65535 (search))))
+      let full : e .kind ≢ 0 = neqb-true (e .kind) 0 (search) in
+      deed-put (clone k) (omega arith)
+      (recount-good m (inv .good (numberOf k)) full (omega (arith, ltb-true (e .count) 65535 (search))))
       full (record { kind = refl; base = refl; length = refl }) (kept refl (λ x h. refl) (λ h. (refl, refl))) (λ i x sh nr tc ins. tc)
   deed-granted (release k) b nr h = deed-release k b
   deed-granted (lock k u) b nr h =
-      deed-lock (lock k u) (numberOf k) true u (search) (search, search) (search) (ltb→lt u (2 ^ 55) (search)) (T-false (search)) refl
+      deed-lock (lock k u) (numberOf k) true u (search) (search, search) (search) (ltb-true u (2 ^ 55) (search)) (not-true _ (search)) refl
   deed-granted (unlock k u) b nr h = deed-lock (unlock k u) (numberOf k) false 0 (search) (search, search) (search) (omega arith) refl refl
   deed-granted (revoke k c) b nr h =
-      deed-revoke k c (eqb→eq (namedEntry t k .kind) 1 (search)) (ltb→lt (revokeNonce s t (numberOf k)) spent (search))
+      deed-revoke k c (eqb-true (namedEntry t k .kind) 1 (search)) (ltb-true (revokeNonce s t (numberOf k)) spent (search))

@@ -12,7 +12,7 @@ use Rattle.machine.specs.Demand3.{In, Linked, Revokes}
 use Rattle.machine.specs.FromReset.{Has, Inside, Owned, ownedInAll}
 use Rattle.machine.specs.Line.{links, parentNumber}
 use Rattle.machine.specs.Operations.{Decision, Effect, load, Name, nameOf, nothing, store}
-use Rattle.machine.specs.Parts.{at, leastEntries, mostEntries, mostMemory, size, State}
+use Rattle.machine.specs.Parts.{at, mostEntries, mostMemory, size, State}
 use Rattle.machine.specs.Requests.{Request, taskOf}
 use Rattle.machine.proofs.Basics.{Link, link, parent}
 use Rattle.machine.proofs.Written.{Good}
@@ -66,7 +66,6 @@ pub record Inv (m : ℕ) (s : State) (t : List ℕ) : Type 0 where
   pub covered : (x : ℕ) → x < m → Owned t x
   pub good : (n : ℕ) → Good m (at t n)
   pub small : m ≤ mostMemory
-  pub least : leastEntries ≤ size t
   pub most : size t ≤ mostEntries
 
 -- the byte x of a direct entry came from the entry from, and old owner and byte together tell the new owner
@@ -170,7 +169,6 @@ module _ (m : ℕ) (s : State) (t : List ℕ) (q : Request) (d : Decision) (inv 
         covered = inv-covered;
         good = deed .good;
         small = inv .small;
-        least = rw (deed .long) (inv .least);
         most = rw (deed .long) (inv .most);
       }
 

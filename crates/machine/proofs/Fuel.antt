@@ -1,33 +1,62 @@
--- No walk, no climb, no search for a number and no search for a nonce ends for want of fuel.
+-- Walks, climbs and the searches for a number and for a nonce: none ends for want of fuel, and what each finds.
 -- Assumes nothing.
 use mathlib.Core.Path.{_≡_, refl, ap, _∙_}
 use mathlib.Core.Logic.{_≢_}
-use mathlib.Core.Bool.{true, not, _&&_}
+use mathlib.Core.Bool.{true, false, false≢true, not}
 use mathlib.Core.List.{List}
 use Prim.Native.Nat.{ℕ, zero, suc, _+_, _-_, _≤_, _<_}
 use native.Mathlib.Omega.{arith}
 use native.Mathlib.Decide.{decLt, ℕ-discrete}
 use lib.Dec.{eqb, leb, ltb}
-use borrow.Author.Tests.{eqb-true, eqb-false, ltb-true, le-ltb, lt-ltb}
+use borrow.Author.Tests.{eqb-true, eqb-false, le-ltb, lt-ltb, ltb-true}
 use Rattle.layout.specs.Entry.{free}
 use Rattle.layout.specs.Form.{illFormed}
 use Rattle.layout.specs.declared.entry.Entry.{Entry}
-use Rattle.layout.proofs.TestLaws.{both}
+use Rattle.layout.proofs.EntryLaws.{Laid, one, two}
+use Rattle.layout.proofs.FormLaws.{laid}
+use Rattle.machine.specs.Demand3.{above, itself, Owns}
 use Rattle.machine.specs.Issuing.{after, issue, newNumber, passOver, seek}
-use Rattle.machine.specs.Line.{Line, linked, lineOf, parentNumber, parentTag, walk}
+use Rattle.machine.specs.Line.{isDead, isIll, Line, linked, lineOf, ownerOf, parentNumber, walk}
 use Rattle.machine.specs.Operations.{climb, fresh, revokeNonce}
 use Rattle.machine.specs.Parts.{at, put, size, spent, State}
 use Rattle.machine.specs.Searches.{FirstFree, FirstOther, NoneFree, onward, SameTag}
+use Rattle.machine.proofs.Basics.{link, parent}
 use Rattle.machine.proofs.Choices.{by-both, by-cond}
 use Rattle.machine.proofs.TableLaws.{at-other}
 
 -- ---- up a line
 
--- the nonce falls at a link
-pub linked-older : (t : List ℕ) (e : Entry) → linked t e ≡ true → at t (parentNumber e) .nonce < e .nonce
-linked-older t e h =
-    let p : Entry = at t (parentNumber e) in
-    ltb-true (p .nonce) (e .nonce) (both (not (eqb (p .kind) 0) && eqb (p .tag) (parentTag e)) (ltb (p .nonce) (e .nonce)) h .1)
+-- the first entry of a line that is not ill-formed is well-formed
+pub line-formed : (m : ℕ) (t : List ℕ) (n : ℕ) → not (isIll (lineOf m t n)) ≡ true → illFormed m (at t n) ≡ false
+unfolding walk
+line-formed m t n =
+    by-cond (λ (l : Line). not (isIll l) ≡ true → illFormed m (at t n) ≡ false) (illFormed m (at t n))
+    (λ e h. absurd (false≢true h))
+    (λ e h. e)
+
+abbrev pub Live : Line → Type 0
+Live l = (not (isIll l) ≡ true) × (not (isDead l) ≡ true)
+
+-- a live walk ends at the owner
+pub walk-owns : (f m : ℕ) (t : List ℕ) (n : ℕ) → at t n .kind ≢ 0 → Live (walk f m t n) → Owns t n (ownerOf (walk f m t n))
+unfolding walk
+walk-owns zero m t n k = λ h. absurd (false≢true (h .1))
+walk-owns (suc f) m t n k =
+    by-cond P (illFormed m (at t n)) (λ w h. absurd (false≢true (h .0)))
+    (λ w. by-cond P (eqb (at t n .kind) 1)
+    (λ d h. itself (eqb-true (at t n .kind) 1 d))
+    (λ d. by-cond P (linked t (at t n))
+    (λ l h.
+    above (record { indirect = kind-two (laid m (at t n) k w) (eqb-false (at t n .kind) 1 d); holds = l })
+    (walk-owns f m t (parentNumber (at t n)) (link (at t n) (parent t n) l .full) h))
+    (λ l h. absurd (false≢true (h .1)))))
+  where
+    P : Line → Type 0
+    P x = Live x → Owns t n (ownerOf x)
+
+    kind-two : Laid (at t n .kind) → at t n .kind ≢ 1 → at t n .kind ≡ 2
+    kind-two (one i) d = absurd (d i)
+    kind-two (two i) d = i
 
 -- two fuels above the first entry's nonce give the same line
 pub walk-fuel : (f g m : ℕ) (t : List ℕ) (n : ℕ) → at t n .nonce < f → at t n .nonce < g → walk f m t n ≡ walk g m t n
@@ -38,7 +67,7 @@ walk-fuel (suc f) (suc g) m t n h i =
     by-both Same (illFormed m (at t n)) (λ w. refl)
     (λ w. by-both Same (eqb (at t n .kind) 1) (λ d. refl)
     (λ d. by-both Same (linked t (at t n))
-    (λ l. let o : at t (parentNumber (at t n)) .nonce < at t n .nonce = linked-older t (at t n) l in
+    (λ l. let o : at t (parentNumber (at t n)) .nonce < at t n .nonce = link (at t n) (parent t n) l .older in
     walk-fuel f g m t (parentNumber (at t n)) (omega arith) (omega arith))
     (λ l. refl)))
   where
@@ -60,7 +89,7 @@ climb-fuel (suc f) (suc g) t n h i =
     (λ z. by-both Same (eqb (at t n .kind) 1) (λ d. refl)
     (λ d. by-both Same (linked t (at t n))
     (λ l. let p : ℕ = parentNumber (at t n) in
-    let o : at t p .nonce < at t n .nonce = linked-older t (at t n) l in
+    let o : at t p .nonce < at t n .nonce = link (at t n) (parent t n) l .older in
     -- the parent is another entry, so that it is still there when the child is freed
     let apart : p ≢ n = λ e. omega (arith, ap (λ (k : ℕ). at t k .nonce) e) in
     let e : at (put t n free) p .nonce ≡ at t p .nonce = ap (λ (x : Entry). x .nonce) (at-other t n p free apart) in
@@ -187,6 +216,10 @@ pass-over (suc f) s n e old ν =
         same : (x : ℕ) → ν ≤ x → x < r → Dec (x ≡ ν) → issue s n (e x) .tag ≡ old
         same x i j (yes q) = rw q h
         same x i j (no q) = d .passed x (omega arith) j
+
+-- it is not below the next one, nor past the last
+pub revoke-least : (s : State) (t : List ℕ) (n : ℕ) → s .next ≤ revokeNonce s t n
+revoke-least s t n = pass-over (spent - s .next) s n (fresh (at t n)) (at t n .tag) (s .next) .from
 
 pub revoke-most : (s : State) (t : List ℕ) (n : ℕ) → s .next ≤ spent → revokeNonce s t n ≤ spent
 revoke-most s t n h = omega (arith, pass-over (spent - s .next) s n (fresh (at t n)) (at t n .tag) (s .next) .to)

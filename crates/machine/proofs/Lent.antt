@@ -1,30 +1,31 @@
 -- Under every call, granted or not, table, memory and buffer keep their lengths and stay lists of bytes.
 -- Assumes nothing.
-use mathlib.Core.Path.{_≡_, refl, sym, _∙_}
+use mathlib.Core.Path.{_≡_, refl, _∙_}
 use mathlib.Core.Logic.{_≢_}
-use mathlib.Core.Bool.{Bool, true, false, not, _&&_, _||_}
-use mathlib.Core.List.{List, [], _∷_}
+use mathlib.Core.Bool.{false, _&&_}
+use mathlib.Core.List.{List}
 use Prim.Native.Nat.{ℕ, zero, suc, _+_, _≤_}
 use native.Mathlib.Omega.{arith}
 use lib.Dec.{eqb, leb}
 use lib.ListN.{drop, length, length-drop, length-take}
-use lib.Seq.{length-sets}
-use borrow.Author.Tests.{eqb-false, leb-true, ltb-false, not-true}
+use borrow.Author.Tests.{leb-true}
 use Rattle.layout.specs.Entry.{free}
-use Rattle.layout.specs.Form.{endPastMemory, faultsOf, illFormed, lengthZero, orSome}
+use Rattle.layout.specs.Form.{illFormed}
 use Rattle.layout.specs.Token.{named}
 use Rattle.layout.specs.declared.entry.Entry.{Entry}
-use Rattle.layout.proofs.FormLaws.{ill-as}
 use Rattle.machine.specs.Lent.{AllBytes, AsLong, LentBytes}
-use Rattle.machine.specs.Line.{isIll, isLocked, Line, linked, lineOf, parentNumber, walk}
+use Rattle.machine.specs.Line.{isLocked, linked, lineOf, parentNumber}
 use Rattle.machine.specs.Operations.{climb, Decision, Effect, grant, load, namedEntry, nothing, numberOf, store}
 use Rattle.machine.specs.Parts.{at, cleared, put, State}
 use Rattle.machine.specs.Requests.{access, Call, clone, create, derive, executeOnly, fetching, lock, merge, reading, release, Request, reset, revoke, unlock, Way, writing}
 use Rattle.machine.specs.Steps.{answer, bufferAfter, decision, Machine, memoryAfter, step}
 use Rattle.machine.specs.Stops.{checks}
+use Rattle.machine.proofs.Basics.{neqb-true, range}
 use Rattle.machine.proofs.ByteLaws.{bytes-drop, bytes-sets, bytes-take, bytes-zeros}
 use Rattle.machine.proofs.Choices.{by-cond}
 use Rattle.machine.proofs.Decided.{decided, Passed}
+use Rattle.machine.proofs.Effects.{memory-long}
+use Rattle.machine.proofs.Fuel.{line-formed}
 use Rattle.machine.proofs.TableLaws.{bytes-cleared, bytes-put, length-cleared, length-put}
 
 -- ---- the table
@@ -41,19 +42,19 @@ module _ (P : List ℕ → Type 0) (puts : (t : List ℕ) (n : ℕ) (e : Entry) 
       (λ d. by-cond P (linked t (at t n)) (λ l. climbed f (put t n free) (parentNumber (at t n)) (puts t n free h)) (λ l. puts t n free h))))
 
   granted-table : (m : ℕ) (s : State) (t : List ℕ) (q : Request) (b : List ℕ) → P t → P (grant m s t q b .table)
-  granted-table m s t (reset k0 k1 ν) b h = puts _ _ _ (clears t h)
+  granted-table m s t (reset k0 k1 ν) b h = search (puts, clears)
   granted-table m s t (access w k u) b h = h
   granted-table m s t (create k u l x p c) b h =
-      by-cond (λ (d : Decision). P (d .table)) (eqb l (at t (numberOf k) .length)) (λ e. puts _ _ _ (puts t _ _ h)) (λ e. puts _ _ _ (puts t _ _ h))
-  granted-table m s t (merge j k u c) b h = puts _ _ _ (puts t _ _ h)
-  granted-table m s t (derive k o l p c) b h = puts _ _ _ (puts t _ _ h)
-  granted-table m s t (executeOnly k c) b h = puts _ _ _ (puts t _ _ h)
-  granted-table m s t (clone k) b h = puts t _ _ h
+      by-cond (λ (d : Decision). P (d .table)) (eqb l (at t (numberOf k) .length)) (λ e. search (puts)) (λ e. search (puts))
+  granted-table m s t (merge j k u c) b h = search (puts)
+  granted-table m s t (derive k o l p c) b h = search (puts)
+  granted-table m s t (executeOnly k c) b h = search (puts)
+  granted-table m s t (clone k) b h = search (puts)
   granted-table m s t (release k) b h =
       by-cond P (eqb (at t (numberOf k) .count) 1 && isLocked t (lineOf m t (numberOf k))) (λ e. h) (λ e. climbed (suc (at t (numberOf k) .nonce)) t (numberOf k) h)
-  granted-table m s t (lock k u) b h = puts t _ _ h
-  granted-table m s t (unlock k u) b h = puts t _ _ h
-  granted-table m s t (revoke k c) b h = puts t _ _ h
+  granted-table m s t (lock k u) b h = search (puts)
+  granted-table m s t (unlock k u) b h = search (puts)
+  granted-table m s t (revoke k c) b h = search (puts)
 
   pub table-after : (σ : Machine) (q : Call) → P (σ .table) → P (step σ q .table)
   unfolding step
@@ -64,34 +65,6 @@ module _ (P : List ℕ → Type 0) (puts : (t : List ℕ) (n : ℕ) (e : Entry) 
 
 -- ---- memory and buffer
 
--- if no case holds, the first does not, and the second does not
-none-before : (bs : List Bool) (a : Bool) → orSome a bs ≡ false → a ≡ false
-none-before [] a h = h
-none-before (b ∷ bs) true h = none-before bs true h
-none-before (b ∷ bs) false h = refl
-
-second : (a b : Bool) (bs : List Bool) → orSome (a || b) bs ≡ false → b ≡ false
-second true b bs h = let z : _≡_ {A = Bool} true false = none-before bs true h in let z : _≡_ {A = ℕ} 0 1 = cc in absurd (omega arith)
-second false b bs h = none-before bs b h
-
--- a well-formed entry lies in memory
-pub formed-inside : (m : ℕ) (e : Entry) → e .kind ≢ 0 → illFormed m e ≡ false → e .base + e .length ≤ m
-formed-inside m e f h = ltb-false m (e .base + e .length) (go (e .kind) f (sym (ill-as m e refl) ∙ h))
-  where
-    go : (k : ℕ) → k ≢ 0 → orSome false (faultsOf k m e) ≡ false → endPastMemory m e ≡ false
-    go zero f h = absurd (f refl)
-    go (suc zero) f h = second (lengthZero e) (endPastMemory m e) (drop 2 (faultsOf 1 m e)) h
-    go (suc (suc zero)) f h = second (lengthZero e) (endPastMemory m e) (drop 2 (faultsOf 2 m e)) h
-    go (suc (suc (suc k))) f h = let z : _≡_ {A = ℕ} 0 1 = cc in absurd (omega arith)
-
--- the first entry of a line that is not ill-formed is well-formed
-pub line-formed : (m : ℕ) (t : List ℕ) (n : ℕ) → not (isIll (lineOf m t n)) ≡ true → illFormed m (at t n) ≡ false
-unfolding walk
-line-formed m t n =
-    by-cond (λ (l : Line). not (isIll l) ≡ true → illFormed m (at t n) ≡ false) (illFormed m (at t n))
-    (λ e h. let z : _≡_ {A = ℕ} 0 1 = cc in absurd (omega arith))
-    (λ e h. e)
-
 -- an effect reads no more than the buffer holds, and inside memory; it stores bytes, if the buffer has bytes
 abbrev EffectFits : (m : ℕ) (buffer : List ℕ) → Effect → Type 0
 EffectFits m b nothing = Unit {0}
@@ -101,10 +74,10 @@ EffectFits m b (store a bs) = AllBytes b → AllBytes bs
 pub access-inside : (m : ℕ) (s : State) (t : List ℕ) (w : Way) (k u : ℕ) (b : List ℕ) → Passed (checks m s t (access w k u) b) → namedEntry t k .base + named k .offset + length b ≤ m
 access-inside m s t w k u b h =
     let e : Entry = namedEntry t k in
-    let full : e .kind ≢ 0 = eqb-false (e .kind) 0 (not-true (eqb (e .kind) 0) (search)) in
+    let full : e .kind ≢ 0 = neqb-true (e .kind) 0 (search) in
     let formed : illFormed m e ≡ false = line-formed m t (numberOf k) (search) in
     let bound : named k .offset + length b ≤ e .length = leb-true (named k .offset + length b) (e .length) (search) in
-    omega (arith, formed-inside m e full formed)
+    omega (arith, range m e full formed)
 
 effect-fits : (m : ℕ) (s : State) (t : List ℕ) (q : Request) (b : List ℕ) → Passed (checks m s t q b) → EffectFits m b (grant m s t q b .effect)
 effect-fits m s t (reset k0 k1 ν) b h = tt
@@ -120,7 +93,7 @@ effect-fits m s t (clone k) b h = tt
 effect-fits m s t (release k) b h = tt
 effect-fits m s t (lock k u) b h = tt
 effect-fits m s t (unlock k u) b h = tt
-effect-fits m s t (revoke k c) b h = λ i. bytes-zeros (at t (numberOf k) .length)
+effect-fits m s t (revoke k c) b h = λ i. search (bytes-zeros)
 
 decided-fits : (σ : Machine) (q : Call) → EffectFits (length (σ .memory)) (q .buffer) (decision σ q .effect)
 decided-fits σ q =
@@ -128,11 +101,6 @@ decided-fits σ q =
     decided (λ (d : Decision). EffectFits m (q .buffer) (d .effect)) m (σ .state) (σ .table) (q .request) (q .buffer)
     (effect-fits m (σ .state) (σ .table) (q .request) (q .buffer))
     (λ r p told. tt)
-
-memory-long : (f : Effect) (memory : List ℕ) → length (memoryAfter f memory) ≡ length memory
-memory-long nothing memory = refl
-memory-long (load a n) memory = refl
-memory-long (store a bs) memory = length-sets memory a bs
 
 buffer-long : (f : Effect) (memory b : List ℕ) → EffectFits (length memory) b f → length (bufferAfter f memory b) ≡ length b
 buffer-long nothing memory b h = refl

@@ -2,25 +2,26 @@
 -- Assumes nothing.
 use mathlib.Core.Path.{_≡_, refl, sym, ap, subst, _∙_}
 use mathlib.Core.Logic.{_≢_}
-use mathlib.Core.Bool.{true}
 use mathlib.Core.List.{List, [], _∷_, _++_, List·Memᴰ, Memᴰ·append-left, Memᴰ·append-right}
 use Prim.Native.Nat.{ℕ, _≤_, _<_}
 use native.Mathlib.Omega.{arith}
 use native.Mathlib.Decide.{decLt}
-use lib.Dec.{eqb, leb→le}
 use lib.ListN.{length}
+use borrow.Author.Tests.{leb-true}
 use Rattle.layout.specs.declared.entry.Entry.{Entry}
 use Rattle.machine.specs.Demand3.{Accepted, IsReset, issuedIn, NoReset, resetCall}
 use Rattle.machine.specs.FromReset.{ownedInAll}
-use Rattle.machine.specs.Operations.{Decision, grant, grantReset, nameOf, nothing}
+use Rattle.machine.specs.Operations.{grantReset, nameOf}
 use Rattle.machine.specs.Parts.{at, cleared, mostEntries, mostMemory, put, root, size, State}
-use Rattle.machine.specs.Requests.{access, Call, clone, create, derive, executeOnly, lock, merge, release, Request, reset, revoke, unlock}
-use Rattle.machine.specs.Steps.{answer, decide, decision, Machine, pass, refused, run, settle, step, stop, Verdict, verdict}
-use Rattle.machine.specs.Stops.{Check, checks}
-use Rattle.machine.proofs.Basics.{by-cond, numbered, passed, Passed, put-all, stopped}
+use Rattle.machine.specs.Requests.{Call, Request, reset}
+use Rattle.machine.specs.Steps.{decide, decision, Machine, run, step}
+use Rattle.machine.specs.Stops.{checks}
+use Rattle.machine.proofs.Basics.{put-all}
+use Rattle.machine.proofs.Decided.{accepted, decided, Passed}
 use Rattle.machine.proofs.Deeds.{deed-granted, deed-none}
 use Rattle.machine.proofs.Effects.{memory-long}
 use Rattle.machine.proofs.Fates.{core, Deed, Inv, inv-step, new-given, old-core}
+use Rattle.machine.proofs.Lent.{as-long}
 use Rattle.machine.proofs.Sums.{sum-first}
 use Rattle.machine.proofs.TableLaws.{at-cleared, at-same, size-cleared, size-put}
 use Rattle.machine.proofs.Written.{direct-good, free-good, Good}
@@ -28,12 +29,8 @@ use Rattle.machine.proofs.Written.{direct-good, free-good, Good}
 -- ---- one request
 
 pub deed : (m : ℕ) (s : State) (t : List ℕ) (q : Request) (b : List ℕ) → Inv m s t → (IsReset q → ⊥) → Deed m s t q (decide m s t q b)
-unfolding decide
-deed m s t q b inv nr = go (verdict (checks m s t q b)) refl
-  where
-    go : (v : Verdict) → verdict (checks m s t q b) ≡ v → Deed m s t q (settle v m s t q b)
-    go pass e = deed-granted m s t inv q b nr (passed (checks m s t q b) e)
-    go (stop r p) e = deed-none m s t inv q (refused s t r p .reply) nothing (λ n x sh nr tc ins. tc)
+deed m s t q b inv nr =
+    decided (Deed m s t q) m s t q b (deed-granted m s t inv q b nr) (λ r p told. deed-none m s t inv q (omega arith) (λ n x sh nr tc ins. tc))
 
 -- what holds of a machine from reset on
 abbrev pub Well : Machine → Type 0
@@ -44,55 +41,6 @@ NotReset q = IsReset (q .request) → ⊥
 
 pub deed-of : (σ : Machine) (q : Call) → Well σ → NotReset q → Deed (length (σ .memory)) (σ .state) (σ .table) (q .request) (decision σ q)
 deed-of σ q inv nr = deed (length (σ .memory)) (σ .state) (σ .table) (q .request) (q .buffer) inv nr
-
--- every refusal has a number that is not 0, and what is granted answers 0
-numbers : (m : ℕ) (s : State) (t : List ℕ) (q : Request) (b : List ℕ) → (numbered (checks m s t q b) ≡ true) × (grant m s t q b .reply .refusal ≡ 0)
-numbers m s t (reset k0 k1 ν) b = (refl, refl)
-numbers m s t (access w k u) b = (refl, refl)
-numbers m s t (create k u l x p c) b = (refl, by-cond (λ (d : Decision). d .reply .refusal ≡ 0) (eqb l (at t _ .length)) (λ i. refl) (λ i. refl))
-numbers m s t (merge j k u c) b = (refl, refl)
-numbers m s t (derive k o l p c) b = (refl, refl)
-numbers m s t (executeOnly k c) b = (refl, refl)
-numbers m s t (clone k) b = (refl, refl)
-numbers m s t (release k) b = (refl, refl)
-numbers m s t (lock k u) b = (refl, refl)
-numbers m s t (unlock k u) b = (refl, refl)
-numbers m s t (revoke k c) b = (refl, refl)
-
-module _ (σ : Machine) (q : Call) where
-  abbrev cs : List Check
-  cs = checks (length (σ .memory)) (σ .state) (σ .table) (q .request) (q .buffer)
-
-  abbrev given : Decision
-  given = grant (length (σ .memory)) (σ .state) (σ .table) (q .request) (q .buffer)
-
-  -- a request is accepted, having passed its checks, and does what `grant` says; or it changes nothing
-  pub data Turned : Type 0 where
-    taken : Accepted σ q → Passed cs → decision σ q ≡ given → Turned
-    away : decision σ q .state ≡ σ .state → decision σ q .table ≡ σ .table → decision σ q .effect ≡ nothing → (Accepted σ q → ⊥) → Turned
-
-  pub turned : Turned
-  unfolding answer decide
-  turned = go (verdict cs) refl
-    where
-      all : (numbered cs ≡ true) × (given .reply .refusal ≡ 0)
-      all = numbers (length (σ .memory)) (σ .state) (σ .table) (q .request) (q .buffer)
-
-      go : (v : Verdict) → verdict cs ≡ v → Turned
-      go pass e = taken (rw e (all .1)) (passed cs e) (rw e refl)
-      go (stop r p) e = away (rw e refl) (rw e refl) (rw e refl) (λ a. stopped cs r p (all .0) e (rw e at a))
-
-  pub accepted : Accepted σ q → Passed cs × (decision σ q ≡ given)
-  accepted a = go turned
-    where
-      go : Turned → Passed cs × (decision σ q ≡ given)
-      go (taken b p e) = (p, e)
-      go (away i j k n) = absurd (n a)
-
--- a request leaves the memory's length
-pub step-long : (σ : Machine) (q : Call) → length (step σ q .memory) ≡ length (σ .memory)
-unfolding step
-step-long σ q = memory-long (decision σ q .effect) (σ .memory)
 
 module _ (σ : Machine) (q : Call) (inv : Well σ) (nr : NotReset q) where
   pub step-well : Well (step σ q)
@@ -134,7 +82,7 @@ none-split (q ∷ a) b n =
 
 pub run-long : (σ : Machine) (qs : List Call) → length (run σ qs .memory) ≡ length (σ .memory)
 run-long σ [] = refl
-run-long σ (q ∷ qs) = run-long (step σ q) qs ∙ step-long σ q
+run-long σ (q ∷ qs) = run-long (step σ q) qs ∙ as-long σ q .memory
 
 pub run-well : (σ : Machine) (qs : List Call) → Well σ → NoReset qs → Well (run σ qs)
 run-well σ [] inv nr = inv
@@ -185,7 +133,7 @@ module _ (m : ℕ) (t : List ℕ) (k0 k1 ν : ℕ) (lo : 1 ≤ m) (hi : m ≤ mo
   clean = put (cleared t) 0 (root m)
 
   root-good : Good m (root m)
-  root-good = direct-good m 0 m 0 7 true 0 0 hi lo (omega arith) (omega arith) (omega arith) (omega arith) (omega arith)
+  root-good = direct-good m hi lo (omega arith) (omega arith) (omega arith) (omega arith) (omega arith)
 
   there : at clean 0 ≡ root m
   there = at-same (cleared t) 0 (root m) (root-good .storable) (omega (arith, size-cleared t))
@@ -209,7 +157,6 @@ module _ (m : ℕ) (t : List ℕ) (k0 k1 ν : ℕ) (lo : 1 ≤ m) (hi : m ≤ mo
         covered = λ x h. record { owner = 0; has = record { direct = ap (λ (e : Entry). e .kind) there; inside = rw there (omega arith) } };
         good = first (λ n e. Good m e) root-good (λ n i. rw at-cleared (free-good m));
         small = hi;
-        least = omega (arith, size-put (cleared t) 0 (root m), size-cleared t);
         most = omega (arith, size-put (cleared t) 0 (root m), size-cleared t);
       }
 
@@ -228,19 +175,19 @@ module _ (σ : Machine) (k0 k1 ν : ℕ) (b : List ℕ) (ok : Accepted σ (reset
   fine = accepted σ (resetCall k0 k1 ν b) ok
 
   lo : 1 ≤ m
-  lo = let h = fine .0 in leb→le 1 m (search)
+  lo = let h = fine .0 in leb-true 1 m (search)
 
   hi : m ≤ mostMemory
-  hi = let h = fine .0 in leb→le m mostMemory (search)
+  hi = let h = fine .0 in leb-true m mostMemory (search)
 
   least : 2 ≤ size t
-  least = let h = fine .0 in leb→le 2 (size t) (search)
+  least = let h = fine .0 in leb-true 2 (size t) (search)
 
   most : size t ≤ mostEntries
-  most = let h = fine .0 in leb→le (size t) mostEntries (search)
+  most = let h = fine .0 in leb-true (size t) mostEntries (search)
 
   pos : 1 ≤ ν
-  pos = let h = fine .0 in leb→le 1 ν (search)
+  pos = let h = fine .0 in leb-true 1 ν (search)
 
   pub well-reset : Well (step σ (resetCall k0 k1 ν b))
   unfolding step

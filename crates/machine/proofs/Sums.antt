@@ -6,19 +6,20 @@ use mathlib.Core.List.{List}
 use Prim.Native.Nat.{ℕ, zero, suc, _+_, _≤_, _<_}
 use native.Mathlib.Omega.{arith}
 use native.Mathlib.Decide.{decLt}
-use lib.Dec.{eqb, eqb→eq}
+use lib.Dec.{eqb}
+use borrow.Author.Tests.{eqb-false, eqb-true}
 use Rattle.layout.specs.Entry.{Storable}
 use Rattle.layout.specs.declared.entry.Entry.{Entry}
 use Rattle.machine.specs.FromReset.{owned, ownedBelow, ownedInAll}
 use Rattle.machine.specs.Parts.{at, cleared, put, size}
-use Rattle.machine.proofs.Basics.{by-cond, neqb→ne}
+use Rattle.machine.proofs.Choices.{by-cond}
 use Rattle.machine.proofs.TableLaws.{at-cleared, at-other, at-same, size-cleared, size-put}
 
 pub owned-direct : (e : Entry) → e .kind ≡ 1 → owned e ≡ e .length
-owned-direct e k = by-cond (λ n. n ≡ e .length) (eqb (e .kind) 1) (λ i. refl) (λ i. absurd (neqb→ne (e .kind) 1 i k))
+owned-direct e k = by-cond (λ n. n ≡ e .length) (eqb (e .kind) 1) (λ i. refl) (λ i. absurd (eqb-false (e .kind) 1 i k))
 
 pub owned-other : (e : Entry) → e .kind ≢ 1 → owned e ≡ 0
-owned-other e k = by-cond (λ n. n ≡ 0) (eqb (e .kind) 1) (λ i. absurd (k (eqb→eq (e .kind) 1 i))) (λ i. refl)
+owned-other e k = by-cond (λ n. n ≡ 0) (eqb (e .kind) 1) (λ i. absurd (k (eqb-true (e .kind) 1 i))) (λ i. refl)
 
 below-same : (t t′ : List ℕ) → ((n : ℕ) → owned (at t′ n) ≡ owned (at t n)) → (k : ℕ) → ownedBelow t′ k ≡ ownedBelow t k
 unfolding ownedBelow

@@ -4,29 +4,31 @@ use mathlib.Core.Path.{_≡_, refl, sym, ap, ap₂, subst, _∙_}
 use mathlib.Core.Logic.{_≢_}
 use mathlib.Core.Bool.{true}
 use mathlib.Core.List.{List, [], _∷_, _++_, append-assoc, List·Memᴰ}
-use Prim.Native.Nat.{ℕ, suc, _+_, _-_, _≤_, _<_}
+use Prim.Native.Nat.{ℕ, suc, _+_, _≤_, _<_}
 use native.Mathlib.Omega.{arith}
 use native.Mathlib.Decide.{decLe, decLt, ℕ-discrete}
-use lib.Dec.{eqb→eq, ltb→lt}
 use lib.ListN.{drop, getD, length, replicate, take}
 use lib.Seq.{ext-getD}
+use borrow.Author.Tests.{eqb-true, ltb-true}
 use Rattle.layout.specs.Token.{named}
 use Rattle.layout.specs.declared.entry.Entry.{Entry}
 use Rattle.machine.specs.Demand3.{above, Accepted, Alike, Closed, Demand3, In, IsReset, issuedIn, itself, LockedFor, NoneCarries, NoReset, Owns, resetCall, Revokes, Under, Unrevoked}
 use Rattle.machine.specs.Line.{lineOf, ownerOf, parentNumber}
-use Rattle.machine.specs.Operations.{Decision, Effect, fresh, grant, grantRevoke, Name, nameOf, numberOf, revokedOf, revokeNonce, store}
+use Rattle.machine.specs.Operations.{Decision, grant, grantRevoke, Name, nameOf, numberOf, revokedOf, revokeNonce, store}
 use Rattle.machine.specs.Parts.{at, put, spent}
 use Rattle.machine.specs.Requests.{access, Call, clone, create, derive, executeOnly, lock, merge, release, Request, reset, revoke, taskOf, unlock}
 use Rattle.machine.specs.Steps.{answer, answers, bufferAfter, decide, decision, Machine, memoryAfter, run, step}
 use Rattle.machine.specs.Stops.{checks}
-use Rattle.machine.proofs.Basics.{Link, link, Live, neqb→ne, owner-direct, owner-unique, parent, pass-up, Passed, walk-owns}
+use Rattle.machine.proofs.Basics.{Link, link, neqb-true, owner-direct, owner-unique, parent, range}
+use Rattle.machine.proofs.Decided.{accepted, away, Passed, taken, Turned, turned}
 use Rattle.machine.proofs.Deeds.{revoked-good}
 use Rattle.machine.proofs.Effects.{buffer-agree, memory-agree, memory-long, memory-other, zeros}
 use Rattle.machine.proofs.Fates.{core, Deed, linked-same, Shut, shut-stays, Touches}
-use Rattle.machine.proofs.Runs.{accepted, away, deed-of, none-append, none-split, NotReset, run-append, run-new, run-old, run-up, run-well, step-up, step-well, taken, Turned, turned, Well, well-reset}
+use Rattle.machine.proofs.Fuel.{Live, revoke-least, walk-owns}
+use Rattle.machine.proofs.Runs.{deed-of, none-append, none-split, NotReset, run-append, run-new, run-old, run-up, run-well, step-up, step-well, Well, well-reset}
 use Rattle.machine.proofs.SliceLaws.{all-zeros}
 use Rattle.machine.proofs.TableLaws.{at-same, in-table}
-use Rattle.machine.proofs.Written.{Good, range}
+use Rattle.machine.proofs.Written.{Good}
 
 -- ---- the lock holds
 
@@ -55,13 +57,7 @@ guard σ s t q inv nr l h r = go (turned σ q)
         let d : Deed (length (σ .memory)) (σ .state) (σ .table) (q .request) (decision σ q) = deed-of σ q inv nr in
         let k = shut-stays (length (σ .memory)) (σ .state) (σ .table) (q .request) (decision σ q) inv d s sh (λ v. r v a) in
         record { same = k .0; locked = k .1 .0; holder = k .1 .1; untouched = λ x tc i. d .spared s x sh (λ v. r v a) tc i }
-    go (away e f g na) =
-        record {
-          same = ap (λ (u : List ℕ). core (at u s)) f;
-          locked = ap (λ (u : List ℕ). at u s .locked) f;
-          holder = ap (λ (u : List ℕ). at u s .holder) f;
-          untouched = λ x tc i. subst (λ (y : Effect). Touches y x) g tc;
-        }
+    go (away r p told e na) = rw e (record { same = refl; locked = refl; holder = refl; untouched = λ x tc i. tc })
 
 lock-step : (σ : Machine) (s t : ℕ) (q : Call) → LockedFor σ s t → Guard σ s (decision σ q) → LockedFor (step σ q) s t
 unfolding step
@@ -135,8 +131,8 @@ wipe σ s r v a = go (as-revoke (r .request) s)
         record {
           encoding = c;
           done = both .1 ∙ ap (λ (q : Request). grant m (σ .state) (σ .table) q (r .buffer)) e ∙ ap (λ (i : ℕ). grantRevoke (σ .state) (σ .table) i c) n;
-          direct = subst (λ (i : ℕ). at (σ .table) i .kind ≡ 1) n (eqb→eq (at (σ .table) (numberOf k) .kind) 1 (search));
-          left = subst (λ (i : ℕ). revokeNonce (σ .state) (σ .table) i < spent) n (ltb→lt (revokeNonce (σ .state) (σ .table) (numberOf k)) spent (search));
+          direct = subst (λ (i : ℕ). at (σ .table) i .kind ≡ 1) n (eqb-true (at (σ .table) (numberOf k) .kind) 1 (search));
+          left = subst (λ (i : ℕ). revokeNonce (σ .state) (σ .table) i < spent) n (ltb-true (revokeNonce (σ .state) (σ .table) (numberOf k)) spent (search));
         }
 
 -- the new entry has a new nonce
@@ -144,7 +140,7 @@ revoke-nonce : (σ : Machine) (s : ℕ) (r : Call) → Well σ → Wipe σ s r �
 unfolding step
 revoke-nonce σ s r inv w =
     let e : Entry = revokedOf (σ .state) (σ .table) s in
-    let up : σ .state .next ≤ revokeNonce (σ .state) (σ .table) s = pass-up (spent - σ .state .next) (σ .state) s (fresh (at (σ .table) s)) (at (σ .table) s .tag) (σ .state .next) in
+    let up : σ .state .next ≤ revokeNonce (σ .state) (σ .table) s = revoke-least (σ .state) (σ .table) s in
     let good : Good (length (σ .memory)) e = revoked-good (length (σ .memory)) (σ .state) (σ .table) inv s (w .direct) (w .left) in
     let new : at (put (σ .table) s e) s ≡ e = at-same (σ .table) s e (good .storable) (in-table (σ .table) s (omega (arith, w .direct))) in
     rw (w .done, new) up
@@ -265,8 +261,8 @@ module _ (ρ : Machine) (inv₀ : Well ρ) (after qs : List Call) (nr : NoReset 
       let q : Call = record { request = access w token task; buffer = buffer } in
       let p = accepted D q ok .0 in
       still-open (numberOf token) en
-      (neqb→ne (at (D .table) (numberOf token) .kind) 0 (search))
-      (eqb→eq (at (D .table) (numberOf token) .tag) (named token .tag) (search) ∙ et)
+      (neqb-true (at (D .table) (numberOf token) .kind) 0 (search))
+      (eqb-true (at (D .table) (numberOf token) .tag) (named token .tag) (search) ∙ et)
       (search, search)
 
 -- ---- secrecy
@@ -279,8 +275,8 @@ record Twin (e : Entry) (s t : ℕ) (τ₁ τ₂ : Machine) : Type 0 where
   inv : Well τ₁
 
 -- equal decisions, since no byte is looked at
-decided : (e : Entry) (τ₁ τ₂ : Machine) (q : Call) → Alike e τ₁ τ₂ → decision τ₁ q ≡ decision τ₂ q
-decided e τ₁ τ₂ q a i = decide (a .long i) (a .state i) (a .table i) (q .request) (q .buffer)
+same-decision : (e : Entry) (τ₁ τ₂ : Machine) (q : Call) → Alike e τ₁ τ₂ → decision τ₁ q ≡ decision τ₂ q
+same-decision e τ₁ τ₂ q a i = decide (a .long i) (a .state i) (a .table i) (q .request) (q .buffer)
 
 dec-in : (e : Entry) (x : ℕ) → Dec (In e x)
 dec-in e x = go (decLe (e .base) x) (decLt x (e .base + e .length))
@@ -292,7 +288,7 @@ dec-in e x = go (decLe (e .base) x) (decLt x (e .base + e .length))
 
 module _ (e : Entry) (s t : ℕ) (τ₁ τ₂ : Machine) (tw : Twin e s t τ₁ τ₂) (q : Call) where
   same : decision τ₁ q ≡ decision τ₂ q
-  same = decided e τ₁ τ₂ q (tw .alike)
+  same = same-decision e τ₁ τ₂ q (tw .alike)
 
   -- the answers are the same if what is read is
   same-answer : bufferAfter (decision τ₁ q .effect) (τ₁ .memory) (q .buffer) ≡ bufferAfter (decision τ₁ q .effect) (τ₂ .memory) (q .buffer) → answer τ₁ q ≡ answer τ₂ q
@@ -367,12 +363,12 @@ module _ (e : Entry) (s t : ℕ) (τ₁ τ₂ : Machine) (tw : Twin e s t τ₁ 
     wipe-zeros : take (e .length) (drop (e .base) (step τ₁ q .memory)) ≡ replicate (e .length) 0
     unfolding step
     wipe-zeros =
-        let whole = range (length (τ₁ .memory)) (at (τ₁ .table) s) (tw .inv .good s) (omega (arith, wp .direct)) in
+        let whole = range (length (τ₁ .memory)) (at (τ₁ .table) s) (omega (arith, wp .direct)) (tw .inv .good s .formed) in
         let fit : e .base + e .length ≤ length (τ₁ .memory) = subst (λ (x : Entry). x .base + x .length ≤ length (τ₁ .memory)) (tw .same) (whole .1) in
         all-zeros (memoryAfter (decision τ₁ q .effect) (τ₁ .memory)) (e .base) (e .length) (omega (arith, memory-long (decision τ₁ q .effect) (τ₁ .memory)))
         (λ x i j. zero-inside (τ₁ .memory) x (i, j))
 
-alike-refl : (e : Entry) (σ : Machine) → Alike e σ σ
+pub alike-refl : (e : Entry) (σ : Machine) → Alike e σ σ
 alike-refl e σ = record { state = refl; table = refl; long = refl; outside = λ x i. refl }
 
 alike-sym : {e : Entry} {σ τ : Machine} → Alike e σ τ → Alike e τ σ
@@ -415,12 +411,12 @@ same-run e s t τ₁ τ₂ (q ∷ qs) tw nr n =
         let v : Revokes (q .request) s = rw i n in
         next (wipe-answer e s t τ₁ τ₂ tw q v a)
         (subst (λ (σ : Machine). Same e (step τ₁ q) σ qs) (wipe-equal e s t τ₁ τ₂ tw q v a) (record { said = refl; left = alike-refl e (run (step τ₁ q) qs) }))
-    go f (is k c x n) (away i j l na) = other f (λ w a. na a)
+    go f (is k c x n) (away i j told d na) = other f (λ w a. na a)
 
 -- what is accepted in one copy is accepted in the other
 accepted-same : (e : Entry) (τ₁ τ₂ : Machine) (q : Call) → Alike e τ₁ τ₂ → Accepted τ₁ q → Accepted τ₂ q
 unfolding answer
-accepted-same e τ₁ τ₂ q a h = subst (λ (d : Decision). d .reply .refusal ≡ 0) (decided e τ₁ τ₂ q a) h
+accepted-same e τ₁ τ₂ q a h = subst (λ (d : Decision). d .reply .refusal ≡ 0) (same-decision e τ₁ τ₂ q a) h
 
 unrevoked-same : (e : Entry) (s t : ℕ) (τ₁ τ₂ : Machine) (qs : List Call) → Twin e s t τ₁ τ₂ → NoReset qs → NoneCarries t qs → Unrevoked τ₁ qs s → Unrevoked τ₂ qs s
 unrevoked-same e s t τ₁ τ₂ [] tw nr n u = tt

@@ -22,17 +22,18 @@ use Rattle.machine.specs.Parts.{at, cleared, put, size}
 use Rattle.machine.specs.Requests.{Call, reading}
 use Rattle.machine.specs.Steps.{Answer, answer, decide, Machine, run, step}
 use Rattle.machine.specs.Uses.{before, changed, derives, First, first, listOf, locks7, Premises, read, reset1, revokes}
+use Rattle.machine.proofs.Theorem.{alike-refl, demand3}
 
 -- ---- a token derived before the lock is closed by the revoke
 
 -- demand 3, for a token whose premises are met
-closed-by : Demand3 → (σ : Machine) (f : First) (qs : List Call) (r : Call) (a : List Call) (q : Call) (b : List Call) (k : Name) → Premises σ f qs r a q b k
+closed-by : (σ : Machine) (f : First) (qs : List Call) (r : Call) (a : List Call) (q : Call) (b : List Call) (k : Name) → Premises σ f qs r a q b k
     → (zs : List Call) → NoReset zs → (List·Memᴰ k (issuedIn (step (run σ a) q) (b ++ (r ∷ zs))) → ⊥) → Closed (run (step (run (run σ (listOf f)) qs) r) zs) k
 unfolding Demand3
-closed-by d σ f qs r a q b k p zs n =
+closed-by σ f qs r a q b k p zs n =
     let τ : Machine = run σ (listOf f) in
-    let same : Alike (at (τ .table) (f .entry)) τ τ = record { state = refl; table = refl; long = refl; outside = λ x o. refl } in
-    d σ (f .key0) (f .key1) (f .firstNonce) [] (p .accepted) (f .follows) (p .oneReset) (f .entry) (f .task) (p .locked) τ τ same same qs (p .noReset) (p .noneCarries)
+    let same : Alike (at (τ .table) (f .entry)) τ τ = alike-refl (at (τ .table) (f .entry)) τ in
+    demand3 σ (f .key0) (f .key1) (f .firstNonce) [] (p .accepted) (f .follows) (p .oneReset) (f .entry) (f .task) (p .locked) τ τ same same qs (p .noReset) (p .noneCarries)
     .closed r (p .revoked) zs n a q b (p .whole) k (p .given) (p .under)
 
 abbrev child : Name
@@ -62,9 +63,9 @@ child-premises = (
     once (inl e) = omega (arith, ap (λ (x : Name). x .number) e)
     once (inr m) = List·Memᴰ·not-nil m
 
-pub child-closed : Demand3 → Closed (run before (reset1 1 ∷ derives ∷ locks7 ∷ read 0 8 ∷ revokes 0 ∷ [])) child
-child-closed d =
-    closed-by d before (first 1 (derives ∷ locks7 ∷ [])) (read 0 8 ∷ []) (revokes 0) (reset1 1 ∷ []) derives (locks7 ∷ read 0 8 ∷ []) child (child-premises .0) [] tt (child-premises .1)
+pub child-closed : Closed (run before (reset1 1 ∷ derives ∷ locks7 ∷ read 0 8 ∷ revokes 0 ∷ [])) child
+child-closed =
+    closed-by before (first 1 (derives ∷ locks7 ∷ [])) (read 0 8 ∷ []) (revokes 0) (reset1 1 ∷ []) derives (locks7 ∷ read 0 8 ∷ []) child (child-premises .0) [] tt (child-premises .1)
 
 -- ---- "none carrying t" is needed: a read by the holder tells two copies apart
 

@@ -2,30 +2,28 @@
 -- Assumes nothing.
 use mathlib.Core.Path.{_≡_, refl, sym, ap, _∙_}
 use mathlib.Core.Logic.{_≢_}
-use mathlib.Core.List.{List, [], _∷_}
+use mathlib.Core.List.{[], _∷_}
 use mathlib.Core.Bool.{Bool, true, false, not, _&&_, _||_}
 use Prim.Native.Nat.{ℕ, zero, suc, _+_, _≤_, _<_, _^_}
 use native.Mathlib.Nat.{mod-lt}
 use native.Mathlib.Omega.{arith}
 use lib.Dec.{eqb}
-use lib.ListN.{drop}
 use lib.Pow.{pow-pos}
-use borrow.Author.Tests.{eqb-false, le-ltb, ltb-false, ne-eqb}
+use borrow.Author.Tests.{le-ltb, ne-eqb}
 use Rattle.layout.specs.Entry.{bit, direct, directFields, directWidths, free, indirect, isDirect, isFree, isIndirect, Storable}
 use Rattle.layout.specs.Fields.{Fit}
 use Rattle.layout.specs.Form.{endPastMemory, faultsOf, holderWithoutLock, illFormed, lengthZero, lockedWithoutHolder, orSome}
 use Rattle.layout.specs.Tag.{tagOf}
-use Rattle.layout.specs.Token.{NamedFits, tokenFields, tokenWidths}
+use Rattle.layout.specs.Token.{namedAs, NamedFits, tokenFields, tokenWidths}
 use Rattle.layout.specs.declared.entry.Entry.{Entry}
 use Rattle.layout.specs.declared.token.Named.{Named}
-use Rattle.layout.proofs.EntryLaws.{Laid, one, two}
 use Rattle.layout.proofs.FieldLaws.{pack-lt}
-use Rattle.layout.proofs.FormLaws.{ill-as, laid}
+use Rattle.layout.proofs.FormLaws.{ill-as}
 use Rattle.layout.proofs.TokenLaws.{encoding-of, named-of}
 use Rattle.machine.specs.Issuing.{issue}
-use Rattle.machine.specs.Line.{parentNumber}
 use Rattle.machine.specs.Operations.{recount, relock, tokenOf}
 use Rattle.machine.specs.Parts.{mostMemory, spent, State}
+use Rattle.machine.proofs.Basics.{some-false}
 
 -- packed with nothing lost, and well-formed in a memory of m bytes
 pub record Good (m : ℕ) (e : Entry) : Type 0 where
@@ -33,29 +31,6 @@ pub record Good (m : ℕ) (e : Entry) : Type 0 where
   pub formed : illFormed m e ≡ false
 
 -- ---- what a good entry has
-
-or-false : (a b : Bool) → (a || b) ≡ false → (a ≡ false) × (b ≡ false)
-or-false true b h = let z : _≡_ {A = ℕ} 0 1 = cc in absurd (omega arith)
-or-false false b h = (refl, h)
-
--- no case holds
-some-false : (a : Bool) (bs : List Bool) → orSome a bs ≡ false → a ≡ false
-some-false a [] h = h
-some-false a (b ∷ bs) h = or-false a b (some-false (a || b) bs h) .0
-
--- its segment is not empty and lies in memory
-pub range : (m : ℕ) (e : Entry) → Good m e → e .kind ≢ 0 → (0 < e .length) × (e .base + e .length ≤ m)
-range m e g k = go (laid m e k (g .formed))
-  where
-    fault : (bs : List Bool) → orSome false (lengthZero e ∷ endPastMemory m e ∷ bs) ≡ false → (0 < e .length) × (e .base + e .length ≤ m)
-    fault bs h =
-        let both = or-false (lengthZero e) (endPastMemory m e) (some-false (lengthZero e || endPastMemory m e) bs h) in
-        let some = eqb-false (e .length) 0 (both .0) in
-        (omega arith, ltb-false m (e .base + e .length) (both .1))
-
-    go : Laid (e .kind) → (0 < e .length) × (e .base + e .length ≤ m)
-    go (one i) = fault (drop 2 (faultsOf 1 m e)) (sym (ill-as m e i) ∙ g .formed)
-    go (two i) = fault (drop 2 (faultsOf 2 m e)) (sym (ill-as m e i) ∙ g .formed)
 
 -- a direct entry's fields fit
 pub direct-fit : (m : ℕ) (e : Entry) → Good m e → e .kind ≡ 1 → Fit directWidths (directFields e)
@@ -94,17 +69,17 @@ bit-small : (b : Bool) → bit b < 2
 bit-small true = omega arith
 bit-small false = omega arith
 
-pub direct-good : (m b l u p : ℕ) (k : Bool) (g ν : ℕ) → m ≤ mostMemory → 0 < l → b + l ≤ m → u < 2 ^ 64 → p < 8 → g < 65536 → ν < spent → Good m (direct b l u p k g ν)
+pub direct-good : (m : ℕ) {b l u p : ℕ} {k : Bool} {g ν : ℕ} → m ≤ mostMemory → 0 < l → b + l ≤ m → u < 2 ^ 64 → p < 8 → g < 65536 → ν < spent → Good m (direct b l u p k g ν)
 unfolding illFormed
-direct-good m b l u p k g ν h1 h2 h3 h4 h5 h6 h7 =
+direct-good m {b} {l} {u} {p} {k} {g} {ν} h1 h2 h3 h4 h5 h6 h7 =
     record {
       storable = isDirect refl refl refl (omega (arith, bit-small k));
       formed = rw (ne-eqb l 0 (omega arith), le-ltb m (b + l) h3);
     }
 
-pub issue-direct : (m : ℕ) (s : State) (n b l u p : ℕ) (k : Bool) (ν : ℕ) → m ≤ mostMemory → 0 < l → b + l ≤ m → u < 2 ^ 64 → p < 8 → ν < spent → Good m (issue s n (direct b l u p k 0 ν))
-issue-direct m s n b l u p k ν h1 h2 h3 h4 h5 h6 =
-    direct-good m b l u p k (tagOf (s .key0) (s .key1) (direct b l u p k 0 ν) n) ν h1 h2 h3 h4 h5 (tag-small (s .key0) (s .key1) (direct b l u p k 0 ν) n) h6
+pub issue-direct : (m : ℕ) (s : State) (n : ℕ) {b l u p : ℕ} {k : Bool} {ν : ℕ} → m ≤ mostMemory → 0 < l → b + l ≤ m → u < 2 ^ 64 → p < 8 → ν < spent → Good m (issue s n (direct b l u p k 0 ν))
+issue-direct m s n {b} {l} {u} {p} {k} {ν} h1 h2 h3 h4 h5 h6 =
+    direct-good m h1 h2 h3 h4 h5 (tag-small (s .key0) (s .key1) (direct b l u p k 0 ν) n) h6
 
 -- what a parent token names
 abbrev names : ℕ → Entry → Named
@@ -113,14 +88,14 @@ names n e = record { tag = e .tag; number = n; offset = 0 }
 names-fit : (m : ℕ) (n : ℕ) (e : Entry) → Good m e → n < 1024 → NamedFits 1 (names n e)
 names-fit m n e g h = omega (arith, fitting m e g)
 
--- the number that a child's parent token names
-pub parent-named : (m : ℕ) (n : ℕ) (e : Entry) (b l p g ν : ℕ) → Good m e → n < 1024 → parentNumber (indirect b l (tokenOf 1 n e) p g ν) ≡ n
-parent-named m n e b l p g ν good h = ap (λ (x : Named). x .number) (named-of 1 (names n e) (names-fit m n e good h))
+-- the number that a parent token names
+pub parent-named : (m : ℕ) (n : ℕ) (e : Entry) → Good m e → n < 1024 → namedAs 1 (tokenOf 1 n e) .number ≡ n
+parent-named m n e good h = ap (λ (x : Named). x .number) (named-of 1 (names n e) (names-fit m n e good h))
 
-pub issue-indirect : (m : ℕ) (s : State) (k n : ℕ) (e : Entry) (b l p ν : ℕ) → m ≤ mostMemory → Good m e → n < 1024 → 0 < l → b + l ≤ m → p < 8 → ν < spent
+pub issue-indirect : (m : ℕ) (s : State) (k n : ℕ) {e : Entry} {b l p ν : ℕ} → m ≤ mostMemory → Good m e → n < 1024 → 0 < l → b + l ≤ m → p < 8 → ν < spent
     → Good m (issue s k (indirect b l (tokenOf 1 n e) p 0 ν))
 unfolding illFormed
-issue-indirect m s k n e b l p ν h1 good h2 h3 h4 h5 h6 =
+issue-indirect m s k n {e} {b} {l} {p} {ν} h1 good h2 h3 h4 h5 h6 =
     let fit : NamedFits 1 (names n e) = names-fit m n e good h2 in
     let word : tokenOf 1 n e < 2 ^ 64 = pack-lt (tokenWidths 46 0) (tokenFields 1 (names n e)) fit in
     record {
@@ -128,9 +103,9 @@ issue-indirect m s k n e b l p ν h1 good h2 h3 h4 h5 h6 =
       formed = rw (ne-eqb l 0 (omega arith), le-ltb m (b + l) h4, encoding-of 1 (names n e) (omega arith) fit);
     }
 
-pub recount-good : (m : ℕ) (e : Entry) (k : ℕ) → Good m e → e .kind ≢ 0 → k < 65536 → Good m (recount e k)
+pub recount-good : (m : ℕ) {e : Entry} {k : ℕ} → Good m e → e .kind ≢ 0 → k < 65536 → Good m (recount e k)
 unfolding illFormed
-recount-good m e k g n h = record { storable = go (g .storable); formed = same (e .kind) ∙ g .formed }
+recount-good m {e} {k} g n h = record { storable = go (g .storable); formed = same (e .kind) ∙ g .formed }
   where
     go : Storable e → Storable (recount e k)
     go (isFree i) = absurd (n (ap (λ (x : Entry). x .kind) i))
@@ -144,8 +119,8 @@ recount-good m e k g n h = record { storable = go (g .storable); formed = same (
     same (suc (suc (suc x))) = refl
 
 -- the holder is zero just if the entry is not locked
-pub relock-good : (m : ℕ) (e : Entry) (locked : Bool) (h : ℕ) → Good m e → e .kind ≡ 1 → h < 2 ^ 55 → (locked && eqb h 0) ≡ false → (not locked && not (eqb h 0)) ≡ false → Good m (relock e locked h)
-relock-good m e locked h g k l a b =
+pub relock-good : (m : ℕ) {e : Entry} {locked : Bool} {h : ℕ} → Good m e → e .kind ≡ 1 → h < 2 ^ 55 → (locked && eqb h 0) ≡ false → (not locked && not (eqb h 0)) ≡ false → Good m (relock e locked h)
+relock-good m {e} {locked} {h} g k l a b =
     record { storable = go (g .storable); formed = ill-as m (relock e locked h) k ∙ formed (sym (ill-as m e k) ∙ g .formed) }
   where
     go : Storable e → Storable (relock e locked h)

@@ -1,12 +1,12 @@
 -- Issuing (01, "Issuing").
 -- Assumes nothing.
-use mathlib.Core.Bool.{Bool, cond}
+use mathlib.Core.Bool.{cond}
 use mathlib.Core.List.{List}
 use Prim.Native.Nat.{ℕ, zero, suc, _+_, _-_}
 use lib.Dec.{eqb, ltb}
 use Rattle.layout.specs.Tag.{retag, tagOf}
 use Rattle.layout.specs.declared.entry.Entry.{Entry}
-use Rattle.machine.specs.Parts.{at, size, spent, State}
+use Rattle.machine.specs.Parts.{at, size, State}
 
 -- "The tag is the low 16 bits of SipHash-2-4 over 40 bytes: the entry as issued with tag 0, then the number as 8 bytes, low byte first."
 -- The entry e, with its nonce, as it is issued under number n.

@@ -11,7 +11,6 @@ use Rattle.layout.specs.Entry.{direct, free, indirect}
 use Rattle.layout.specs.Permissions.{X}
 use Rattle.layout.specs.Token.{named, token}
 use Rattle.layout.specs.declared.entry.Entry.{Entry}
-use Rattle.layout.specs.declared.token.Named.{Named}
 use Rattle.machine.specs.Issuing.{issue, newNumber, passOver}
 use Rattle.machine.specs.Line.{isLocked, lineOf, linked, ownerOf, parentNumber}
 use Rattle.machine.specs.Parts.{at, cleared, moved, put, root, spent, State}

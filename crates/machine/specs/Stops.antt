@@ -1,7 +1,7 @@
 -- Where a request stops (01, "Where a request stops"). "Checks run down this table": for each request one list of checks in the order of 01's
 -- table, each with what must hold and the refusal that is given if it does not.
 -- Assumes nothing.
-use mathlib.Core.Bool.{Bool, true, false, not, cond}
+use mathlib.Core.Bool.{Bool, not, cond}
 use mathlib.Core.List.{List, [], _∷_, _++_}
 use Prim.Native.Nat.{ℕ, _+_, _%_, _^_}
 use lib.Dec.{eqb, leb, ltb}
