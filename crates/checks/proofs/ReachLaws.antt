@@ -1,25 +1,27 @@
 -- Places 2 to 5: a law for each way out.
 -- Assumes nothing.
-use mathlib.Core.Path.{_≡_, refl, sym, _∙_, ap}
+use mathlib.Core.Path.{_≡_, refl, sym, _∙_, ap, subst}
 use mathlib.Core.Bool.{Bool, true, false, not, _&&_, cond}
 use mathlib.Core.List.{List, [], _∷_, _++_}
 use Prim.Native.Nat.{ℕ, _+_, _*_, _/_, _≤_, _<_}
 use native.Mathlib.Omega.{arith}
 use lib.Dec.{eqb, ltb}
 use lib.ListN.{length}
-use borrow.Author.Tests.{le-ltb, lt-ltb, ltb-true}
+use borrow.Author.Tests.{eqb-false, le-ltb, lt-ltb, ltb-true, not-true}
 use Rattle.layout.specs.Token.{named}
 use Rattle.layout.specs.declared.entry.Entry.{Entry}
 use Rattle.layout.specs.declared.token.Named.{Named}
 use Rattle.layout.proofs.TestLaws.{both}
-use Rattle.machine.specs.Line.{dead, ill, Line, lineOf, owner, whose}
+use Rattle.machine.specs.Line.{dead, ill, isIll, Line, lineOf, owner, whose, isLocked}
 use Rattle.machine.specs.Operations.{numberOf}
 use Rattle.machine.specs.Parts.{at, size}
-use Rattle.machine.specs.Steps.{pass, stop, verdict}
+use Rattle.machine.specs.Steps.{pass, stop, Verdict, verdict}
 use Rattle.machine.specs.Stops.{Check, entryNamed, lineAlive, lineFormed, live, lockOpen, reachable}
+use Rattle.machine.proofs.Lent.{formed-inside, line-formed}
 use Rattle.checks.specs.Holds.{namedHolds}
-use Rattle.checks.specs.Answers.{liveVerdict, reachVerdict}
+use Rattle.checks.specs.Answers.{liveVerdict, reachVerdict, Reaches, formedVerdict}
 use Rattle.checks.proofs.VerdictLaws.{andThen, parts-pass, passed, passes, stops, verdict-append}
+use Rattle.checks.specs.declared.reach.Reached.{Reached}
 
 -- ---- place 2
 
@@ -33,13 +35,35 @@ module _ (t : List ℕ) (k : ℕ) (n : Named) (is : n ≡ named k) where
   entry-out h = let i : length t / 32 ≤ numberOf k = rw is at h in rw (le-ltb (numberOf k) (length t / 32) i)
 
 -- an entry that is named stands in the table
+pub size-in : (t : List ℕ) (n : ℕ) → ltb n (size t) ≡ true → 32 * n + 32 ≤ length t
+unfolding size
+size-in t n h = let i : n < length t / 32 = ltb-true _ _ h in omega arith
+
 pub named-in : (t : List ℕ) (k : ℕ) → namedHolds t k ≡ true → 32 * numberOf k + 32 ≤ length t
-unfolding size namedHolds
-named-in t k h = let i : numberOf k < length t / 32 = ltb-true _ _ (both _ _ (both _ _ h .0) .0) in omega arith
+unfolding namedHolds
+named-in t k h = size-in t (numberOf k) (both _ _ (both _ _ h .0) .0)
 
 -- ---- places 3 and 4
 
 module _ (m : ℕ) (t : List ℕ) (k : ℕ) where
+  pub formed-named : namedHolds t k ≡ false → formedVerdict m t k ≡ stop 2 0
+  unfolding formedVerdict namedHolds
+  formed-named h = stops 2 (entryNamed t k) (lineFormed m t k ∷ []) tt h
+
+  form : namedHolds t k ≡ true → formedVerdict m t k ≡ verdict (lineFormed m t k ∷ [])
+  unfolding formedVerdict namedHolds
+  form h = passes 2 (entryNamed t k) (lineFormed m t k ∷ []) tt h
+
+  pub formed-ill : (i : ℕ) → namedHolds t k ≡ true → lineOf m t (numberOf k) ≡ ill i → formedVerdict m t k ≡ stop 3 (whose (numberOf k) i)
+  formed-ill i h l = form h ∙ rw l
+
+  pub formed-dead : (d : ℕ) → namedHolds t k ≡ true → lineOf m t (numberOf k) ≡ dead d → (formedVerdict m t k ≡ pass) × (false ≡ isLocked t (lineOf m t (numberOf k)))
+  formed-dead d h l = (form h ∙ rw l, rw l)
+
+  pub formed-owner : (o : ℕ) (e : Entry) → namedHolds t k ≡ true → lineOf m t (numberOf k) ≡ owner o → e ≡ at t o
+      → (formedVerdict m t k ≡ pass) × (e .locked ≡ isLocked t (lineOf m t (numberOf k)))
+  formed-owner o e h l q = (form h ∙ rw l, rw (l, q))
+
   pub live-named : namedHolds t k ≡ false → liveVerdict m t k ≡ stop 2 0
   unfolding liveVerdict namedHolds
   live-named h = stops 2 (entryNamed t k) (lineFormed m t k ∷ lineAlive m t k ∷ []) tt h
@@ -80,10 +104,8 @@ module _ (m : ℕ) (t : List ℕ) (k : ℕ) where
 -- ---- what a token that passes says
 
 pub live-in : (m : ℕ) (t : List ℕ) (k : ℕ) → liveVerdict m t k ≡ pass → 32 * numberOf k + 32 ≤ length t
-unfolding liveVerdict size
-live-in m t k h =
-    let i : numberOf k < length t / 32 = ltb-true _ _ (passed (live m t k) h .0) in
-    omega arith
+unfolding liveVerdict
+live-in m t k h = size-in t (numberOf k) (passed (live m t k) h .0)
 
 pub reach-is-live : (m : ℕ) (t : List ℕ) (k u : ℕ) → reachVerdict m t k u ≡ pass → liveVerdict m t k ≡ pass
 unfolding reachVerdict liveVerdict
@@ -91,3 +113,16 @@ reach-is-live m t k u h = parts-pass (live m t k) (lockOpen m t k u ∷ []) h .0
 
 pub reach-in : (m : ℕ) (t : List ℕ) (k u : ℕ) → reachVerdict m t k u ≡ pass → 32 * numberOf k + 32 ≤ length t
 reach-in m t k u h = live-in m t k (reach-is-live m t k u h)
+
+-- an entry that is there and not ill-formed lies in memory
+pub reached-inside : (m : ℕ) (t : List ℕ) (n : ℕ) → not (eqb (at t n .kind) 0) ≡ true → not (isIll (lineOf m t n)) ≡ true → at t n .base + at t n .length ≤ m
+reached-inside m t n full formed =
+    formed-inside m (at t n) (eqb-false (at t n .kind) 0 (not-true (eqb (at t n .kind) 0) full)) (line-formed m t n formed)
+
+-- what a token came to is known of a verdict that is the same
+pub reaches-as : (t : List ℕ) (r : Reached) (l : Line) (v w : Verdict) → w ≡ v → Reaches t r v l → Reaches t r w l
+reaches-as t r l v w e h = subst (λ (x : Verdict). Reaches t r x l) (sym e) h
+
+pub formed-in : (m : ℕ) (t : List ℕ) (k : ℕ) → formedVerdict m t k ≡ pass → 32 * numberOf k + 32 ≤ length t
+unfolding formedVerdict
+formed-in m t k h = size-in t (numberOf k) (passed (entryNamed t k ++ (lineFormed m t k ∷ [])) h .0)

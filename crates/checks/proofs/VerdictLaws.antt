@@ -62,6 +62,17 @@ module _ (xs ys zs : List Check) (u : T (uniform 1 xs)) where
   pub token-passes : allHold xs ≡ true → verdict ys ≡ pass → verdict ((xs ++ ys) ++ zs) ≡ verdict zs
   token-passes h g = verdict-append (xs ++ ys) zs ∙ ap (λ v. andThen v (verdict zs)) (passes 1 xs ys u h ∙ g)
 
+-- a list, and one check more
+module _ (xs : List Check) (c : Check) where
+  pub more-stops : (r p : ℕ) → verdict xs ≡ stop r p → verdict (xs ++ (c ∷ [])) ≡ stop r p
+  more-stops r p h = verdict-append xs (c ∷ []) ∙ ap (λ v. andThen v (verdict (c ∷ []))) h
+
+  pub more-fails : verdict xs ≡ pass → c .holds ≡ false → verdict (xs ++ (c ∷ [])) ≡ stop (c .refusal) (c .place)
+  more-fails h f = verdict-append xs (c ∷ []) ∙ ap (λ v. andThen v (verdict (c ∷ []))) h ∙ ap (λ b. cond b pass (stop (c .refusal) (c .place))) f
+
+  pub more-passes : verdict xs ≡ pass → c .holds ≡ true → verdict (xs ++ (c ∷ [])) ≡ pass
+  more-passes h f = verdict-append xs (c ∷ []) ∙ ap (λ v. andThen v (verdict (c ∷ []))) h ∙ ap (λ b. cond b pass (stop (c .refusal) (c .place))) f
+
 -- a list that passes passes in each part
 andThen-pass : (v w : Verdict) → andThen v w ≡ pass → (v ≡ pass) × (w ≡ pass)
 andThen-pass pass w h = (refl, h)
@@ -82,3 +93,7 @@ passed (c ∷ cs) h = go (c .holds) (passed cs) h
     go : (b : Bool) → (verdict cs ≡ pass → Passed cs) → cond b (verdict cs) (stop (c .refusal) (c .place)) ≡ pass → (b ≡ true) × Passed cs
     go true f h = (refl, f h)
     go false f h = let z : _≡_ {A = ℕ} 0 1 = cc in absurd (omega arith)
+
+-- checks that all give the refusal r, and hold as one, hold each
+pub all-passed : (r : ℕ) (cs : List Check) → T (uniform r cs) → allHold cs ≡ true → Passed cs
+all-passed r cs u h = passed cs (together r true cs u ∙ ap (λ b. cond b pass (stop r 0)) h)

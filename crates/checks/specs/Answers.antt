@@ -1,6 +1,7 @@
 -- 01's number and place for each refusal ("When an answer is an enum, a definition gives this paper's number and values for each of its cases").
 -- Assumes nothing.
 use mathlib.Core.Path.{_≡_}
+use mathlib.Core.Bool.{Bool}
 use mathlib.Core.List.{List, [], _∷_, _++_}
 use Prim.Native.Nat.{ℕ, _+_, _*_, _≤_}
 use lib.ListN.{length}
@@ -11,6 +12,8 @@ use Rattle.checks.specs.declared.answer.Place.{Place}
 use Rattle.checks.specs.declared.answer.Place.the-variants.{Ancestor, Named}
 use Rattle.checks.specs.declared.answer.Refusal.{Refusal}
 use Rattle.checks.specs.declared.answer.Refusal.the-variants.{Bounds, Dead, Entry, IllFormed, Kind, Lock, Nonces, Numbers, Request, Right, Standing}
+use Rattle.checks.specs.declared.reach.Formed.{Formed}
+use Rattle.checks.specs.declared.reach.Formed.the-variants as formed
 use Rattle.checks.specs.declared.reach.Reached.{Reached}
 use Rattle.checks.specs.declared.reach.Reached.the-variants.{Owner, Stop}
 
@@ -62,3 +65,8 @@ reachVerdict m t k u = steps.verdict (reachable m t k u)
 abbrev pub Reaches : List ℕ → Reached → steps.Verdict → Line → Type 0
 Reaches t (Stop why) v l = v ≡ stopAs why
 Reaches t (Owner o) v l = (v ≡ steps.pass) × ((l ≡ owner o) × (32 * o + 32 ≤ length t))
+
+-- the checks came to the verdict v, and the line's lock is b
+abbrev pub Forms : Formed → steps.Verdict → Bool → Type 0
+Forms (formed.Stop why) v b = v ≡ stopAs why
+Forms (formed.Locked l) v b = (v ≡ steps.pass) × (l ≡ b)

@@ -6,15 +6,21 @@ use table::entries::entry_at;
 use table::line::Line;
 use table::line::walk;
 ghost use mathlib.Core.Path.{_≡_};
-ghost use Rattle.machine.specs.Line.{lineOf, whose};
+ghost use Rattle.machine.specs.Line.{isLocked, lineOf, whose};
 ghost use Rattle.machine.specs.Operations.{numberOf};
-ghost use Rattle.checks.specs.Answers.{liveVerdict, placeAs, Reaches, reachVerdict};
+ghost use Rattle.checks.specs.Answers.{formedVerdict, Forms, liveVerdict, placeAs, Reaches, reachVerdict};
 ghost use Rattle.checks.specs.Holds.{namedHolds};
 
 // What the checks of a token come to: where it stops, or the owner of its line.
 pub enum Reached {
     Stop(Refusal),
     Owner(usize),
+}
+
+// What places 2 and 3 of a token come to: where it stops, or whether its line is locked.
+pub enum Formed {
+    Stop(Refusal),
+    Locked(bool),
 }
 
 // Place 2: the token's number is in the table, its entry is not free and has the token's tag.
@@ -38,6 +44,26 @@ pub fn place(n: usize, k: usize) -> Place
         Place::Named
     } else {
         Place::Ancestor
+    }
+}
+
+// Places 2 and 3. A dead line counts as unlocked.
+pub fn reach_formed(table: &[u8], memory: u64, k: u64) -> Formed
+    ensures { λ r. ⌜ Forms r (formedVerdict memory (now (table .entry)) k) (isLocked (now (table .entry)) (lineOf memory (now (table .entry)) (numberOf k))) ⌝ }
+{
+    if !entry_named(table, k) {
+        return Formed::Stop(Refusal::Entry);
+    }
+    let named = read(k);
+    let n = named.number as usize;
+    let l = walk(table, memory, n);
+    match l {
+        Line::Owner(o) => {
+            let e = entry_at(table, o);
+            Formed::Locked(e.locked)
+        }
+        Line::Dead(_) => Formed::Locked(false),
+        Line::Ill(i) => Formed::Stop(Refusal::IllFormed(place(n, i))),
     }
 }
 

@@ -21,7 +21,7 @@ use Rattle.machine.specs.Requests.{access, rightOf, Way}
 use Rattle.machine.specs.Steps.{pass, stop, Verdict}
 use Rattle.machine.specs.Stops.{Check, checks, reachable, settings, taskFits, transferFits}
 use Rattle.machine.proofs.Lent.{access-inside}
-use Rattle.operations.specs.Rulings.{decided, effectOn, granting, handed, plainly, stateAs, verdictOn}
+use Rattle.operations.specs.Rulings.{decided, effectOn, grantedEffect, granting, handed, plainly, stateAs, verdictOn}
 use Rattle.operations.specs.Ways.{startOf, transferChecks, transferVerdict}
 use Rattle.operations.specs.declared.answer.Served.{Served}
 use Rattle.operations.specs.declared.answer.State.{State}
@@ -85,6 +85,7 @@ module _ (m : ℕ) (s : parts.State) (t : List ℕ) (w : Way) (k u : ℕ) (b : L
     access-room = access-inside m s t w k u b (passed (checks m s t (access w k u) b) h)
 
     pub access-effect : effectOn m s t (access w k u) b ≡ transfer w (startOf t k) b
+    unfolding grantedEffect
     access-effect = effect-pass m s t (access w k u) b h
 
 -- what is handed back

@@ -8,8 +8,13 @@ use Rattle.checks.specs.declared.answer.Refusal.{Refusal}
 use Rattle.machine.specs.Operations.{grant, nothing}
 use Rattle.machine.specs.Parts as parts
 use Rattle.machine.specs.Requests.{Request}
-use Rattle.machine.specs.Steps.{decide, pass, settle, Verdict}
-use Rattle.operations.specs.Rulings.{checkedAs, decided, effectOn, granting, handed, refusing, ruled, Ruling, stateAs, verdictOn}
+use Rattle.machine.specs.Steps.{decide, pass, settle, Verdict, stop}
+use Rattle.operations.specs.Rulings.{checkedAs, decided, effectOn, granting, handed, refusing, ruled, Ruling, stateAs, verdictOn, grantedEffect}
+use Rattle.checks.proofs.VerdictLaws.{Passed, passed}
+use Rattle.machine.specs.Parts as parts
+use Rattle.machine.specs.Stops.{checks}
+use Rattle.machine.specs.Parts as parts
+use Rattle.machine.specs.Parts as parts
 use Rattle.operations.specs.declared.answer.Checked.{Checked}
 use Rattle.operations.specs.declared.answer.Checked.the-variants.{Pass, Stop}
 use Rattle.operations.specs.declared.answer.Served.{Served}
@@ -36,10 +41,15 @@ unfolding granting
 decided-pass m s t q b x e h = e ∙ sym (by-verdict m s t q b pass h)
 
 -- the effect of a request that is refused, and of one that is granted
-pub effect-stop : (m : ℕ) (s : parts.State) (t : List ℕ) (q : Request) (b : List ℕ) (why : Refusal) → verdictOn m s t q b ≡ stopAs why → effectOn m s t q b ≡ nothing
+pub effect-stop : (m : ℕ) (s : parts.State) (t : List ℕ) (q : Request) (b : List ℕ) (r p : ℕ) → verdictOn m s t q b ≡ stop r p → effectOn m s t q b ≡ nothing
 unfolding effectOn decide verdictOn
-effect-stop m s t q b why h = ap (λ (v : Verdict). settle v m s t q b .effect) h
+effect-stop m s t q b r p h = ap (λ (v : Verdict). settle v m s t q b .effect) h
 
-pub effect-pass : (m : ℕ) (s : parts.State) (t : List ℕ) (q : Request) (b : List ℕ) → verdictOn m s t q b ≡ pass → effectOn m s t q b ≡ grant m s t q b .effect
-unfolding effectOn decide verdictOn
+pub effect-pass : (m : ℕ) (s : parts.State) (t : List ℕ) (q : Request) (b : List ℕ) → verdictOn m s t q b ≡ pass → effectOn m s t q b ≡ grantedEffect m s t q b
+unfolding effectOn decide verdictOn grantedEffect
 effect-pass m s t q b h = ap (λ (v : Verdict). settle v m s t q b .effect) h
+
+-- a request that passes has every check hold
+pub passed-on : (m : ℕ) (s : parts.State) (t : List ℕ) (q : Request) (b : List ℕ) → verdictOn m s t q b ≡ pass → Passed (checks m s t q b)
+unfolding verdictOn
+passed-on m s t q b h = passed (checks m s t q b) h

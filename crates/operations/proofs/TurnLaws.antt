@@ -5,7 +5,7 @@ use mathlib.Core.List.{List, []}
 use Prim.Native.Nat.{ℕ}
 use lib.Dec.{eqb}
 use lib.ListN.{length}
-use Rattle.machine.specs.Operations.{Decision, Effect, grant, load, nothing, numberOf, transfer}
+use Rattle.machine.specs.Operations.{Decision, Effect, grant, nothing, numberOf}
 use Rattle.machine.specs.Parts as parts
 use Rattle.machine.specs.Parts.{at}
 use Rattle.machine.specs.Requests.{access, clone, create, derive, executeOnly, fetching, lock, merge, reading, release, Request, reset, revoke, unlock, Way, writing}
@@ -13,6 +13,7 @@ use Rattle.machine.specs.Steps.{answer, bufferAfter, decide, memoryAfter, pass,
 use Rattle.machine.specs.Stops.{checks}
 use Rattle.machine.proofs.Choices.{by-cond}
 use Rattle.operations.specs.Rulings.{decided, effectOn, handed, ruled, stateAs}
+use Rattle.operations.specs.Ways.{Loads}
 use Rattle.operations.specs.Turns.{after, answered, before, callAs}
 use Rattle.operations.specs.declared.answer.Served.{Served}
 use Rattle.operations.specs.declared.answer.State.{State}
@@ -93,42 +94,51 @@ unread m s t (revoke k c) b h = settled m s t (revoke k c) b (verdict (checks m 
 
 -- ---- one step
 
--- what was handed back, with memory and buffer as the effect leaves them, is a step and its answer
+-- what was handed back, with table, memory and buffer as they then are, is one step of the machine on the request q, and its answer
+abbrev pub Turned : State → (t m b : List ℕ) → Served → (t′ m′ b′ : List ℕ) → Request → Type 0
+Turned s t m b r t′ m′ b′ q = (after r t′ m′ ≡ step (before s t m) (callAs q b)) × (answered r b′ ≡ answer (before s t m) (callAs q b))
+
+pub turned-as : (s : State) (t m b : List ℕ) (r : Served) (t′ m′ b′ : List ℕ) (q p : Request) → q ≡ p → Turned s t m b r t′ m′ b′ p → Turned s t m b r t′ m′ b′ q
+turned-as s t m b r t′ m′ b′ q p e h = subst (Turned s t m b r t′ m′ b′) (sym e) h
+
 turn : (s : State) (t m b : List ℕ) (q : Request) (r : Served) (t′ m′ b′ : List ℕ)
     → handed r t′ ≡ decided (length m) (stateAs s) t q b
     → m′ ≡ memoryAfter (effectOn (length m) (stateAs s) t q b) m
     → b′ ≡ bufferAfter (effectOn (length m) (stateAs s) t q b) m b
-    → (after r t′ m′ ≡ step (before s t m) (callAs q b)) × (answered r b′ ≡ answer (before s t m) (callAs q b))
+    → Turned s t m b r t′ m′ b′ q
 unfolding step answer decided effectOn
 turn s t m b q r t′ m′ b′ h g f =
     (λ i. record { state = h i .state; table = h i .table; memory = g i }, λ i. record { reply = h i .reply; buffer = f i })
 
 module _ (s : State) (t m b : List ℕ) (r : Served) (t′ : List ℕ) where
-  pub quiet-turn : (q : Request) → Quiet q → Unread q → handed r t′ ≡ decided (length m) (stateAs s) t q []
-      → (after r t′ m ≡ step (before s t m) (callAs q b)) × (answered r b ≡ answer (before s t m) (callAs q b))
+  pub quiet-turn : (q : Request) → Quiet q → Unread q → handed r t′ ≡ decided (length m) (stateAs s) t q [] → Turned s t m b r t′ m b q
   unfolding decided
   quiet-turn q z u h =
       let none : effectOn (length m) (stateAs s) t q b ≡ nothing = quiet-effect (length m) (stateAs s) t q b z in
       turn s t m b q r t′ m b (h ∙ ap ruled (sym (unread (length m) (stateAs s) t q b u))) (rw none refl) (rw none refl)
 
   -- a read or a fetch leaves memory
-  pub load-turn : (w : Way) (k u : ℕ) (b′ : List ℕ) → ((a : ℕ) (b : List ℕ) → transfer w a b ≡ load a (length b)) → handed r t′ ≡ decided (length m) (stateAs s) t (access w k u) b
+  pub load-turn : (w : Way) (k u : ℕ) (b′ : List ℕ) → Loads w → handed r t′ ≡ decided (length m) (stateAs s) t (access w k u) b
       → b′ ≡ bufferAfter (effectOn (length m) (stateAs s) t (access w k u) b) m b
-      → (after r t′ m ≡ step (before s t m) (callAs (access w k u) b)) × (answered r b′ ≡ answer (before s t m) (callAs (access w k u) b))
+      → Turned s t m b r t′ m b′ (access w k u)
   load-turn w k u b′ l h f =
       turn s t m b (access w k u) r t′ m b′ h (by-effect (λ (f : Effect). m ≡ memoryAfter f m) (length m) (stateAs s) t (access w k u) b refl (rw l refl)) f
 
   -- a write and a revoke leave the buffer
-  pub store-turn : (q : Request) (m′ : List ℕ) → b ≡ bufferAfter (grant (length m) (stateAs s) t q b .effect) m b → handed r t′ ≡ decided (length m) (stateAs s) t q b
+  store-turn : (q : Request) (m′ : List ℕ) → b ≡ bufferAfter (grant (length m) (stateAs s) t q b .effect) m b → handed r t′ ≡ decided (length m) (stateAs s) t q b
       → m′ ≡ memoryAfter (effectOn (length m) (stateAs s) t q b) m
-      → (after r t′ m′ ≡ step (before s t m) (callAs q b)) × (answered r b ≡ answer (before s t m) (callAs q b))
+      → Turned s t m b r t′ m′ b q
   store-turn q m′ k h g =
       turn s t m b q r t′ m′ b h g (by-effect (λ (f : Effect). b ≡ bufferAfter f m b) (length m) (stateAs s) t q b refl k)
 
-  -- a revoke, whose contract brings no buffer
+  pub write-turn : (k u : ℕ) (m′ : List ℕ) → handed r t′ ≡ decided (length m) (stateAs s) t (access writing k u) b
+      → m′ ≡ memoryAfter (effectOn (length m) (stateAs s) t (access writing k u) b) m
+      → Turned s t m b r t′ m′ b (access writing k u)
+  write-turn k u m′ h g = store-turn (access writing k u) m′ refl h g
+
   pub revoke-turn : (k c : ℕ) (m′ : List ℕ) → handed r t′ ≡ decided (length m) (stateAs s) t (revoke k c) []
       → m′ ≡ memoryAfter (effectOn (length m) (stateAs s) t (revoke k c) []) m
-      → (after r t′ m′ ≡ step (before s t m) (callAs (revoke k c) b)) × (answered r b ≡ answer (before s t m) (callAs (revoke k c) b))
+      → Turned s t m b r t′ m′ b (revoke k c)
   unfolding decided effectOn
   revoke-turn k c m′ h g =
       let same : decide (length m) (stateAs s) t (revoke k c) b ≡ decide (length m) (stateAs s) t (revoke k c) [] = unread (length m) (stateAs s) t (revoke k c) b tt in

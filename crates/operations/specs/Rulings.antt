@@ -46,16 +46,22 @@ granting m s t q b = ruled (grant m s t q b)
 unfoldable pub decided : ℕ → parts.State → List ℕ → Request → List ℕ → Ruling
 decided m s t q b = ruled (decide m s t q b)
 
--- what a decision does to memory and buffer
+-- what a grant, and a decision, do to memory and buffer
+unfoldable pub grantedEffect : ℕ → parts.State → List ℕ → Request → List ℕ → Effect
+grantedEffect m s t q b = grant m s t q b .effect
+
 unfoldable pub effectOn : ℕ → parts.State → List ℕ → Request → List ℕ → Effect
 effectOn m s t q b = decide m s t q b .effect
 
 abbrev pub handed : Served → List ℕ → Ruling
 handed r t = record { state = stateAs (r .state); table = t; reply = replyAs (r .answer) }
 
--- a refusal, and a grant that gives no token, as the code hands them back
+-- a refusal, a grant that gives no token, and one that gives tokens, as the code hands them back
 abbrev pub refusing : State → Refusal → Served
 refusing s why = record { state = s; answer = Refused why }
 
 abbrev pub plainly : State → ℕ → Served
 plainly s d = record { state = s; answer = Granted 0 0 d }
+
+abbrev pub giving : State → ℕ → ℕ → Served
+giving s a b = record { state = s; answer = Granted a b 0 }

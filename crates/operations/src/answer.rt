@@ -57,3 +57,17 @@ pub fn plain(s: State, dropped: u64) -> Served
         },
     }
 }
+
+// A granted request that gives tokens.
+pub fn giving(s: State, first: u64, second: u64) -> Served
+    ensures { λ r. ⌜ r ≡ ruling.giving s first second ⌝ }
+{
+    Served {
+        state: s,
+        answer: Answer::Granted {
+            first,
+            second,
+            dropped: 0,
+        },
+    }
+}

@@ -1,4 +1,9 @@
 // Any request, served: one step of the machine.
+use crate::answer::Served;
+use crate::answer::State;
+ghost use mathlib.Core.Path.{_≡_};
+ghost use Rattle.machine.specs.Steps.{answer, step};
+ghost use Rattle.operations.specs.Turns.{after, answered, before, callAs, requestAs};
 
 // A request with all that it carries. An access has its bytes in the buffer that is lent with it.
 pub enum Request {
@@ -62,4 +67,68 @@ pub enum Request {
         token: u64,
         encoding: u64,
     },
+}
+
+impl State {
+    // Serves any request: what it hands back, and what table, memory and buffer then hold, is one
+    // step of the machine and its answer.
+    pub fn serve(
+        mut self,
+        request: Request,
+        table: &mut [u8],
+        memory: &mut [u8],
+        buffer: &mut [u8],
+    ) -> Served
+        ensures { λ r. ⌜ after r (now (table .exit)) (now (memory .exit)) ≡ step (before self (now (table .entry)) (now (memory .entry))) (callAs (requestAs request) (now (buffer .entry))) ⌝ }
+        ensures { λ r. ⌜ answered r (now (buffer .exit)) ≡ answer (before self (now (table .entry)) (now (memory .entry))) (callAs (requestAs request) (now (buffer .entry))) ⌝ }
+    {
+        match request {
+            Request::Reset {
+                key0,
+                key1,
+                first_nonce,
+            } => self.reset(table, memory, key0, key1, first_nonce),
+            Request::Read { token, task } => self.read(table, memory, buffer, token, task),
+            Request::Write { token, task } => self.write(table, memory, buffer, token, task),
+            Request::Fetch { token, task } => self.fetch(table, memory, buffer, token, task),
+            Request::Merge {
+                first,
+                second,
+                task,
+                encoding,
+            } => self.merge(table, memory, first, second, task, encoding),
+            Request::Derive {
+                token,
+                offset,
+                length,
+                permissions,
+                encoding,
+            } => self.derive(table, memory, token, offset, length, permissions, encoding),
+            Request::ExecuteOnly { token, encoding } => {
+                self.execute_only(table, memory, token, encoding)
+            }
+            Request::Clone { token } => self.clone(table, memory, token),
+            Request::Drop { token } => self.drop(table, memory, token),
+            Request::Lock { token, task } => self.lock(table, memory, token, task),
+            Request::Unlock { token, task } => self.unlock(table, memory, token, task),
+            Request::Revoke { token, encoding } => self.revoke(table, memory, token, encoding),
+            Request::Create {
+                token,
+                task,
+                length,
+                user,
+                permissions,
+                encoding,
+            } => self.create(
+                table,
+                memory,
+                token,
+                task,
+                length,
+                user,
+                permissions,
+                encoding,
+            ),
+        }
+    }
 }

@@ -1,15 +1,13 @@
 -- The searches for a number and for a nonce, a step at a time.
 -- Assumes nothing.
 use mathlib.Core.Path.{_≡_, refl, sym, _∙_, ap}
-use mathlib.Core.Logic.{_≢_}
-use mathlib.Core.Bool.{Bool, true, false, cond}
+use mathlib.Core.Bool.{true, cond}
 use mathlib.Core.List.{List}
 use Prim.Native.Nat.{ℕ, zero, suc, _+_, _-_, _/_, _≤_, _<_}
 use native.Mathlib.Omega.{arith}
-use native.Mathlib.Decide.{decLt}
 use lib.Dec.{eqb, ltb}
 use lib.ListN.{length}
-use borrow.Author.Tests.{eq-eqb, le-ltb, lt-ltb, ne-eqb}
+use borrow.Author.Tests.{eq-eqb, ne-eqb}
 use Rattle.layout.specs.Entry.{direct}
 use Rattle.layout.specs.Tag.{tagOf}
 use Rattle.layout.specs.declared.entry.Entry.{Entry}
@@ -69,3 +67,9 @@ unfolding passOver
 pass-none s n e old next ν inv h =
     let none : spent - ν ≡ 0 = omega arith in
     sym (inv ∙ rw none refl)
+
+-- of a state, only the key matters
+pub pass-keyed : (tries : ℕ) (s : State) (n : ℕ) (e : ℕ → Entry) (old ν : ℕ) → passOver tries (keyed (s .key0) (s .key1)) n e old ν ≡ passOver tries s n e old ν
+unfolding passOver
+pass-keyed zero s n e old ν = refl
+pass-keyed (suc tries) s n e old ν = ap (λ (later : ℕ). cond (eqb (issue s n (e ν) .tag) old) later ν) (pass-keyed tries s n e old (ν + 1))

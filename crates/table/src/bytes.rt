@@ -1,6 +1,8 @@
 // Parts of memory: cleared, and copied.
 ghost use mathlib.Core.Path.{_≡_};
+ghost use Prim.Native.Nat.{_+_, _≤_};
 ghost use lib.ListN.{length, replicate};
+ghost use lib.Seq.{sets};
 
 // Every byte becomes zero.
 pub fn clear(part: &mut [u8])
@@ -11,6 +13,15 @@ pub fn clear(part: &mut [u8])
         part[i] = 0;
         i += 1;
     }
+}
+
+// So many bytes of memory become zero, from start on.
+pub fn clear_from(memory: &mut [u8], start: usize, count: usize)
+    requires { ⌜ start + count ≤ length (now memory) ⌝ }
+    ensures { λ _. ⌜ now (memory .exit) ≡ sets (now (memory .entry)) start (replicate count 0) ⌝ }
+{
+    let end = start + count;
+    clear(&mut memory[start..end]);
 }
 
 // The bytes of one part, to another of the same length.

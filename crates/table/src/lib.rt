@@ -1,4 +1,4 @@
-// The table: entries by number, the line of an entry, new numbers and issues.
+// The table: entries by number, the line of an entry, new numbers and issues; and parts of memory.
 pub mod bytes;
 pub mod entries;
 pub mod issue;

@@ -34,7 +34,7 @@ fill-spec =
     (λ c.
     let k = c .before .before .before .before in
     let v = verdict-stop _ _ _ _ _ _ (k .check-access .ensures) _ (c .before .before .r .given .1) in
-    (decided-stop _ _ _ _ _ _ _ (c .refused .ensures) v, rw (effect-stop _ _ _ _ _ (c .before .before .r .given .0 .0) v)))
+    (decided-stop _ _ _ _ _ _ _ (c .refused .ensures) v, rw (effect-stop _ _ _ _ _ _ _ v)))
     (λ c. search needs)
     (λ c.
     let l = c .before .before .before in
