@@ -1,6 +1,7 @@
 -- The interface for C and Rust: what a call of `northbridge_serve` returns, and every byte that it leaves, by the machine's `step` and `answer`.
 -- Assumes nothing.
-use mathlib.Core.Bool.{_&&_, cond}
+use mathlib.Core.Path.{_≡_}
+use mathlib.Core.Bool.{Bool, _&&_, cond}
 use mathlib.Core.List.{List, [], _∷_, _++_}
 use Prim.Native.Nat.{ℕ}
 use lib.Dec.{eqb}
@@ -85,8 +86,11 @@ unfoldable pub told : (answer : List ℕ) → List ℕ
 told a = cond (eqb (length a) 40) (answerBytes broken) a
 
 -- a request is read only if request, state and answer have their sizes
+abbrev pub sized : (request state answer : List ℕ) → Bool
+sized q s a = eqb (length q) 64 && eqb (length s) 32 && eqb (length a) 40
+
 unfoldable pub asked : (request state answer : List ℕ) → Asked
-asked q s a = cond (eqb (length q) 64 && (eqb (length s) 32 && eqb (length a) 40)) (requestOf q) unknown
+asked q s a = cond (sized q s a) (requestOf q) unknown
 
 abbrev pub carried : Asked → (state table memory buffer answer : List ℕ) → Exported
 carried (known r) s t m b a =
@@ -98,3 +102,10 @@ carried unknown s t m b a =
 
 unfoldable pub exported : (request state table memory buffer answer : List ℕ) → Exported
 exported q s t m b a = carried (asked q s a) s t m b a
+
+-- what a refused call keeps: all but the answer
+pub record Kept (s t m b : List ℕ) (x : Exported) : Type 0 where
+  pub state : x .state ≡ s
+  pub table : x .table ≡ t
+  pub memory : x .memory ≡ m
+  pub buffer : x .buffer ≡ b
