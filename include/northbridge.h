@@ -1,9 +1,9 @@
 /*
  * The northbridge: a capability machine over memory and tables that the caller lends.
  *
- * The library keeps nothing between two calls, allocates nothing, does no input or output and calls no other library. All that it writes
- * stands in the slices that are lent to it, and what it writes there, byte by byte, and what it returns is fixed, for whatever the slices
- * hold, by the definition `exported` in crates/northbridge/specs/Exported.antt, which the code is proved to meet.
+ * The library keeps nothing between two calls, allocates nothing, does no input or output, and calls nothing but memset. What it returns
+ * and each byte that it leaves in the slices lent to it is fixed, whatever they hold, by the definition `exported` in
+ * crates/northbridge/specs/Exported.antt, which the code is proved to meet.
  */
 #ifndef NORTHBRIDGE_H
 #define NORTHBRIDGE_H

@@ -25,7 +25,7 @@ pub data Asked : Type 0 where
   known : Request → Asked
   unknown : Asked
 
--- the requests in the order of their operations' numbers, 0 to 12
+-- the requests in the order of their operations' numbers, 0 to 12; `release` is drop
 abbrev pub requests : (token second task length user permissions encoding : ℕ) → List Asked
 requests k x u l m p c =
     known (reset k x u)
@@ -43,7 +43,7 @@ requests k x u l m p c =
     ∷ known (revoke k c)
     ∷ []
 
--- an operation's number picks the request, of words that stand after it
+-- the first word picks the request, made of the words after it
 unfoldable pub picked : (operation token second task length user permissions encoding : ℕ) → Asked
 picked o k x u l m p c = getD (requests k x u l m p c) o unknown
 
