@@ -1,6 +1,7 @@
 // The state, and what an operation hands back.
 use checks::answer::Refusal;
 ghost use mathlib.Core.Path.{_≡_};
+ghost use Rattle.checks.specs.Answers.{refusalNumber};
 ghost use Rattle.operations.specs.Rulings as ruling;
 
 // The key, the last number given and the next nonce. Each operation takes the state by value and
@@ -69,5 +70,38 @@ pub fn giving(s: State, first: u64, second: u64) -> Served
             second,
             dropped: 0,
         },
+    }
+}
+
+// The refusal's number: 0 granted, else 01's number.
+pub fn refusal_of(a: Answer) -> u64
+    ensures { λ r. ⌜ r ≡ ruling.replyAs a .refusal ⌝ }
+{
+    match a {
+        Answer::Granted {
+            first: _,
+            second: _,
+            dropped: _,
+        } => 0,
+        Answer::Refused(why) => number_of(why),
+    }
+}
+
+// 01's number of a refusal.
+pub fn number_of(why: Refusal) -> u64
+    ensures { λ r. ⌜ r ≡ refusalNumber why ⌝ }
+{
+    match why {
+        Refusal::Request => 1,
+        Refusal::Entry => 2,
+        Refusal::IllFormed(_) => 3,
+        Refusal::Dead(_) => 4,
+        Refusal::Lock => 5,
+        Refusal::Kind => 6,
+        Refusal::Right => 7,
+        Refusal::Bounds => 8,
+        Refusal::Standing => 9,
+        Refusal::Numbers => 10,
+        Refusal::Nonces => 11,
     }
 }

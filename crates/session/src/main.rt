@@ -1,0 +1,89 @@
+// Paper 01's session: 65,536 bytes, 4 entries, key 0, first nonce 1, task 0 unless named. Prints a
+// line for each case: case, space, refusal (0 granted).
+use libc::STDOUT_FILENO;
+use operations::answer::Answer;
+use operations::answer::Served;
+use operations::answer::State;
+use operations::answer::refusal_of;
+
+// Prints a case's line, and hands the state on.
+fn shown(case: u64, r: Served) -> State {
+    let a = r.answer;
+    io::print_decimal(STDOUT_FILENO, case);
+    io::write_all(STDOUT_FILENO, b" ");
+    io::print_decimal(STDOUT_FILENO, refusal_of(a));
+    io::write_all(STDOUT_FILENO, b"\n");
+    r.state
+}
+
+// A read of twelve bytes, and of one.
+fn read_twelve(s: State, table: &[u8], memory: &[u8], token: u64) -> Served {
+    let mut buffer = [0u8; 12];
+    s.read(table, memory, &mut buffer, token, 0)
+}
+
+fn read_one(s: State, table: &[u8], memory: &[u8], token: u64, task: u64) -> Served {
+    let mut buffer = [0u8; 1];
+    s.read(table, memory, &mut buffer, token, task)
+}
+
+// The first token of an answer.
+fn token_in(r: Served) -> u64 {
+    let a = r.answer;
+    match a {
+        Answer::Granted {
+            first,
+            second: _,
+            dropped: _,
+        } => first,
+        Answer::Refused(_) => 0,
+    }
+}
+
+// Cases 1 to 4: reads through token 0, whose offset is the address.
+fn reads(s: State, table: &[u8], memory: &[u8]) -> State {
+    let s = shown(1, read_twelve(s, table, memory, 4096));
+    let s = shown(2, read_one(s, table, memory, 65535, 0));
+    let s = shown(3, read_one(s, table, memory, 65536, 0));
+    shown(4, read_twelve(s, table, memory, 65525))
+}
+
+// Cases 7 to 11.
+fn locked(s: State, table: &mut [u8], memory: &[u8]) -> State {
+    let s = shown(7, s.create(table, memory, 0, 0, 4096, 0, 7, 0));
+    let s = shown(8, s.lock(table, memory, 0, 0));
+    let s = shown(9, s.lock(table, memory, 0, 7));
+    let s = shown(10, read_one(s, table, memory, 0, 8));
+    shown(11, s.drop(table, memory, 0))
+}
+
+// Cases 12 to 15, with the token that case 5 gave.
+fn revoked(s: State, table: &mut [u8], memory: &mut [u8], token: u64) {
+    let s = shown(12, s.revoke(table, memory, 0, 0));
+    let s = shown(13, read_one(s, table, memory, 0, 0));
+    let s = shown(14, read_one(s, table, memory, token, 0));
+    shown(15, s.drop(table, memory, token));
+}
+
+fn session(table: &mut [u8], memory: &mut [u8]) {
+    let blank = State {
+        key0: 0,
+        key1: 0,
+        last: 0,
+        next: 0,
+    };
+    let start = blank.reset(table, memory, 0, 0, 1);
+    let s = reads(start.state, table, memory);
+    let derived = s.derive(table, memory, 0, 0, 65535, 4, 0);
+    let token = token_in(derived);
+    let s = shown(5, derived);
+    let s = shown(6, s.derive(table, memory, 0, 0, 65536, 4, 0));
+    let s = locked(s, table, memory);
+    revoked(s, table, memory, token);
+}
+
+fn main() {
+    let mut table = [0u8; 128];
+    let mut memory = [0u8; 65536];
+    session(&mut table, &mut memory);
+}
