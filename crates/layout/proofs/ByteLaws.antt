@@ -6,6 +6,7 @@ use Prim.Native.Nat.{ℕ, zero, suc, _^_, _<_}
 use native.Mathlib.Nat.{mod-eq-of-lt, zero-div, zero-mod}
 use lib.ListN.{length, getD, take, drop, replicate, length-replicate}
 use lib.Seq.{drop-drop}
+use borrow.Author.Needs.{needs}
 use borrow.Rule.Slice.PartMut.{putMid}
 use Rattle.layout.specs.Bytes.{bytes, lowBytes, lowNumber, number}
 use Rattle.layout.specs.Entry.{wordWidths, wordList, wordsNumber}
@@ -39,6 +40,11 @@ bytes-number k s h = unpack-pack (replicate k 8) s h
 pub low-round : (k n : ℕ) → n < 2 ^ bits (replicate k 8) → lowNumber k (lowBytes k n) ≡ n
 unfolding lowBytes lowNumber
 low-round k n h = rw reverse-reverse (number-bytes k n h)
+
+-- the bytes of a word with its bytes in the other order
+pub bytes-swapped : (w : ℕ) → bytes 8 (lowNumber 8 (bytes 8 w)) ≡ lowBytes 8 w
+unfolding bytes lowBytes lowNumber
+bytes-swapped w = bytes-number 8 (lowBytes 8 w) (search needs)
 
 pub length-bytes : (k n : ℕ) → length (bytes k n) ≡ k
 unfolding bytes

@@ -1,0 +1,38 @@
+-- `northbridge::northbridge_serve` meets its contract: what is asked picks the arm.
+-- Assumes nothing.
+use mathlib.Core.Path.{sym, _∙_, ap}
+use borrow.Author.Needs.{needs}
+use Rattle.northbridge.specs.Meanings.{askedAs}
+use Rattle.northbridge.proofs.CallLaws.{exported-as, known-sizes}
+use Rattle.northbridge.proofs.northbridge_serve.Statement.{statement}
+use Rattle.northbridge.proofs.northbridge_serve.Tie as tie
+
+pub northbridge-serve-spec : {M : Type 1} → statement M
+northbridge-serve-spec =
+    tie.close
+    (tie.spec
+    (λ c κs. search needs)
+    (λ c. search needs)
+    (λ c κs.
+    let k = c .before .before .before .before .before .before in
+    let a = k .before .before in
+    let b = a .before .before .before .before .before .before .before .before .before .args in
+    known-sizes (b .request .now) (b .state .now) (b .answer .now) _ (ap askedAs (sym (k .asked .given .1)) ∙ a .asked-of .ensures))
+    (λ c. search needs)
+    (λ c κs. search needs)
+    (λ c. search needs)
+    (λ c. search needs)
+    (λ c. search needs)
+    (λ c. search needs)
+    (λ c. search needs)
+    (λ c.
+    let r = c .before .before .before .before .before .before .before .before .before .before in
+    let k = r .before .before .before .before .before .before .before in
+    r .carry-out .ensures ∙ exported-as _ _ _ _ _ _ _ (ap askedAs (sym (k .asked .given .1)) ∙ k .before .before .asked-of .ensures))
+    (λ c. search needs)
+    (λ c. search needs)
+    (λ c.
+    let r = c .before .before in
+    let k = r .before .before in
+    rw (r .refuse .ensures .0, r .refuse .ensures .1)
+    (exported-as _ _ _ _ _ _ _ (ap askedAs (sym (k .enum-told .given .1)) ∙ k .before .before .asked-of .ensures))))

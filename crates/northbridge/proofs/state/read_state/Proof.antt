@@ -1,0 +1,15 @@
+-- `northbridge::state::read_state` meets its contract: word by word.
+-- Assumes nothing.
+use borrow.Author.Needs.{needs}
+use Rattle.northbridge.proofs.state.read_state.Statement.{statement}
+use Rattle.northbridge.proofs.state.read_state.Tie as tie
+
+pub read-state-spec : {M : Type 1} → statement M
+read-state-spec =
+    tie.close
+    (tie.spec
+    (λ c κs. search needs)
+    (λ c κs. search needs)
+    (λ c κs. search needs)
+    (λ c κs. search needs)
+    (λ c. rw (c .before .before .before .word-at .ensures, c .before .before .word-at2 .ensures, c .before .word-at3 .ensures, c .word-at4 .ensures)))

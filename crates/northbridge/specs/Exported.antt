@@ -1,0 +1,111 @@
+-- The interface for C and Rust: what a call of `northbridge_serve` returns, and every byte that it leaves, by the machine's `step` and `answer`.
+-- Assumes nothing.
+use mathlib.Core.Path.{_≡_}
+use mathlib.Core.Bool.{Bool, _&&_, cond}
+use mathlib.Core.List.{List, [], _∷_, _++_}
+use Prim.Native.Nat.{ℕ}
+use lib.Dec.{eqb}
+use lib.ListN.{getD, length}
+use Rattle.layout.specs.Bytes.{lowBytes}
+use Rattle.layout.specs.SipHash.{word}
+use Rattle.machine.specs.Operations.{Reply}
+use Rattle.machine.specs.Parts.{State}
+use Rattle.machine.specs.Requests.{access, Call, clone, create, derive, executeOnly, fetching, lock, merge, reading, release, Request, reset, revoke, unlock, writing}
+use Rattle.machine.specs.Steps as steps
+use Rattle.machine.specs.Steps.{Answer, Machine, step}
+
+-- words of 64 bits as bytes, the low byte first; `word s i` is word i of the bytes s
+abbrev pub wordBytes : List ℕ → List ℕ
+wordBytes [] = []
+wordBytes (w ∷ ws) = lowBytes 8 w ++ wordBytes ws
+
+-- ---- a request: 64 bytes
+
+pub data Asked : Type 0 where
+  known : Request → Asked
+  unknown : Asked
+
+-- the requests in the order of their operations' numbers, 0 to 12; `release` is drop
+abbrev pub requests : (token second task length user permissions encoding : ℕ) → List Asked
+requests k x u l m p c =
+    known (reset k x u)
+    ∷ known (access reading k u)
+    ∷ known (access writing k u)
+    ∷ known (access fetching k u)
+    ∷ known (create k u l m p c)
+    ∷ known (merge k x u c)
+    ∷ known (derive k x l p c)
+    ∷ known (executeOnly k c)
+    ∷ known (clone k)
+    ∷ known (release k)
+    ∷ known (lock k u)
+    ∷ known (unlock k u)
+    ∷ known (revoke k c)
+    ∷ []
+
+-- the first word picks the request, made of the words after it
+unfoldable pub picked : (operation token second task length user permissions encoding : ℕ) → Asked
+picked o k x u l m p c = getD (requests k x u l m p c) o unknown
+
+abbrev pub requestOf : List ℕ → Asked
+requestOf q = picked (word q 0) (word q 1) (word q 2) (word q 3) (word q 4) (word q 5) (word q 6) (word q 7)
+
+-- ---- a state: 32 bytes
+
+abbrev pub stateOf : List ℕ → State
+stateOf s = record { key0 = word s 0; key1 = word s 1; last = word s 2; next = word s 3 }
+
+unfoldable pub stateBytes : State → List ℕ
+stateBytes s = wordBytes (s .key0 ∷ s .key1 ∷ s .last ∷ s .next ∷ [])
+
+-- ---- an answer: 40 bytes
+
+unfoldable pub answerBytes : Reply → List ℕ
+answerBytes r = wordBytes (r .refusal ∷ r .place ∷ r .first ∷ r .second ∷ r .dropped ∷ [])
+
+-- ---- a call
+
+-- what it returns, and the bytes of the slices that it may write
+pub record Exported : Type 0 where
+  pub result : ℕ
+  pub state : List ℕ
+  pub table : List ℕ
+  pub memory : List ℕ
+  pub buffer : List ℕ
+  pub answer : List ℕ
+
+-- a request that the machine has is one step of the machine
+abbrev pub served : Machine → Answer → Exported
+served σ a = record { result = a .reply .refusal; state = stateBytes (σ .state); table = σ .table; memory = σ .memory; buffer = a .buffer; answer = answerBytes (a .reply) }
+
+-- refusal 1, where the call itself is broken: nothing is written but an answer of 40 bytes
+abbrev pub broken : Reply
+broken = record { refusal = 1; place = 0; first = 0; second = 0; dropped = 0 }
+
+unfoldable pub told : (answer : List ℕ) → List ℕ
+told a = cond (eqb (length a) 40) (answerBytes broken) a
+
+-- a request is read only if request, state and answer have their sizes
+abbrev pub sized : (request state answer : List ℕ) → Bool
+sized q s a = eqb (length q) 64 && eqb (length s) 32 && eqb (length a) 40
+
+unfoldable pub asked : (request state answer : List ℕ) → Asked
+asked q s a = cond (sized q s a) (requestOf q) unknown
+
+abbrev pub carried : Asked → (state table memory buffer answer : List ℕ) → Exported
+carried (known r) s t m b a =
+    let before : Machine = record { state = stateOf s; table = t; memory = m } in
+    let call : Call = record { request = r; buffer = b } in
+    served (step before call) (steps.answer before call)
+carried unknown s t m b a =
+    record { result = 1; state = s; table = t; memory = m; buffer = b; answer = told a }
+
+unfoldable pub exported : (request state table memory buffer answer : List ℕ) → Exported
+exported q s t m b a = carried (asked q s a) s t m b a
+
+-- what a refused call keeps: all but the answer
+pub record Kept (s t m b : List ℕ) (x : Exported) : Type 0 where
+  pub state : x .state ≡ s
+  pub table : x .table ≡ t
+  pub memory : x .memory ≡ m
+  pub buffer : x .buffer ≡ b

@@ -1,0 +1,21 @@
+-- The code's values in the interface's terms.
+-- Assumes nothing.
+use mathlib.Core.List.{List}
+use Prim.Native.Nat.{ℕ}
+use Rattle.machine.specs.Operations as machine
+use Rattle.operations.specs.Turns.{requestAs}
+use Rattle.northbridge.specs.Exported.{Asked, Exported, known, unknown}
+use Rattle.northbridge.specs.declared.answer.Reply.{Reply}
+use Rattle.northbridge.specs.declared.request.Asked as code
+use Rattle.northbridge.specs.declared.request.Asked.the-variants.{Known, Unknown}
+
+abbrev pub askedAs : code.Asked → Asked
+askedAs (Known q) = known (requestAs q)
+askedAs Unknown = unknown
+
+abbrev pub wordsAs : Reply → machine.Reply
+wordsAs r = record { refusal = r .refusal; place = r .place; first = r .first; second = r .second; dropped = r .dropped }
+
+-- what a call returned, with the slices as it left them
+abbrev pub left : ℕ → (state table memory buffer answer : List ℕ) → Exported
+left r s t m b a = record { result = r; state = s; table = t; memory = m; buffer = b; answer = a }

@@ -1,0 +1,55 @@
+// A call: its request is carried out, or the call is refused as broken.
+use crate::answer::write_answer;
+use crate::request::Asked;
+use crate::request::request_of;
+use crate::state::read_state;
+use crate::state::write_state;
+use checks::answer::Refusal;
+use operations::answer::Answer;
+use operations::serve::Request;
+ghost use mathlib.Core.Path.{_≡_};
+ghost use lib.ListN.{length};
+ghost use Rattle.operations.specs.Turns.{requestAs};
+ghost use Rattle.northbridge.specs.Exported.{asked, carried, known, told};
+ghost use Rattle.northbridge.specs.Meanings.{askedAs, left};
+
+// The request, if request, state and answer have their sizes.
+pub fn asked_of(request: &[u8], state: &[u8], answer: &[u8]) -> Asked
+    ensures { λ r. ⌜ askedAs r ≡ asked (now (request .entry)) (now (state .entry)) (now (answer .entry)) ⌝ }
+{
+    if (request.len() == 64) & (state.len() == 32) & (answer.len() == 40) {
+        request_of(request)
+    } else {
+        Asked::Unknown
+    }
+}
+
+// A broken call: refusal 1, which an answer of 40 bytes tells.
+pub fn refuse(answer: &mut [u8]) -> u64
+    ensures { λ r. ⌜ (r ≡ 1) × (now (answer .exit) ≡ told (now (answer .entry))) ⌝ }
+{
+    if answer.len() == 40 {
+        write_answer(answer, Answer::Refused(Refusal::Request))
+    } else {
+        1
+    }
+}
+
+// One step of the machine, from the state's bytes to the answer's.
+pub fn carry_out(
+    request: Request,
+    state: &mut [u8],
+    table: &mut [u8],
+    memory: &mut [u8],
+    buffer: &mut [u8],
+    answer: &mut [u8],
+) -> u64
+    requires { ⌜ (length (now state) ≡ 32) × (length (now answer) ≡ 40) ⌝ }
+    ensures { λ r. ⌜ left r (now (state .exit)) (now (table .exit)) (now (memory .exit)) (now (buffer .exit)) (now (answer .exit)) ≡ carried (known (requestAs request)) (now (state .entry)) (now (table .entry)) (now (memory .entry)) (now (buffer .entry)) (now (answer .entry)) ⌝ }
+{
+    let served = read_state(state).serve(request, table, memory, buffer);
+    let next = served.state;
+    write_state(state, next);
+    let told = served.answer;
+    write_answer(answer, told)
+}

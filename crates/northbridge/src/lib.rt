@@ -1,0 +1,33 @@
+// The northbridge for C and Rust: one function over six lent slices.
+pub mod answer;
+pub mod call;
+pub mod request;
+pub mod state;
+pub mod words;
+
+use crate::call::asked_of;
+use crate::call::carry_out;
+use crate::call::refuse;
+use crate::request::Asked;
+ghost use mathlib.Core.Path.{_≡_};
+ghost use Rattle.northbridge.specs.Exported.{exported};
+ghost use Rattle.northbridge.specs.Meanings.{left};
+
+// Serves the request of 64 bytes, whatever the slices hold, and returns its refusal (0 granted).
+#[no_mangle]
+pub extern "C" fn northbridge_serve(
+    request: &[u8],
+    state: &mut [u8],
+    table: &mut [u8],
+    memory: &mut [u8],
+    buffer: &mut [u8],
+    answer: &mut [u8],
+) -> u64
+    ensures { λ r. ⌜ left r (now (state .exit)) (now (table .exit)) (now (memory .exit)) (now (buffer .exit)) (now (answer .exit)) ≡ exported (now (request .entry)) (now (state .entry)) (now (table .entry)) (now (memory .entry)) (now (buffer .entry)) (now (answer .entry)) ⌝ }
+{
+    let asked = asked_of(request, state, answer);
+    match asked {
+        Asked::Known(known) => carry_out(known, state, table, memory, buffer, answer),
+        Asked::Unknown => refuse(answer),
+    }
+}

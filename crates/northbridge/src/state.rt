@@ -1,0 +1,32 @@
+// A state of 32 bytes: four words.
+use crate::words::put_word;
+use crate::words::word_at;
+use operations::answer::State;
+ghost use mathlib.Core.Path.{_≡_};
+ghost use lib.ListN.{length};
+ghost use Rattle.operations.specs.Rulings.{stateAs};
+ghost use Rattle.northbridge.specs.Exported.{stateBytes, stateOf};
+
+// The state that 32 bytes hold.
+pub fn read_state(part: &[u8]) -> State
+    requires { ⌜ length (now part) ≡ 32 ⌝ }
+    ensures { λ r. ⌜ stateAs r ≡ stateOf (now (part .entry)) ⌝ }
+{
+    State {
+        key0: word_at(part, 0),
+        key1: word_at(part, 1),
+        last: word_at(part, 2),
+        next: word_at(part, 3),
+    }
+}
+
+// The state is stored as 32 bytes.
+pub fn write_state(part: &mut [u8], s: State)
+    requires { ⌜ length (now part) ≡ 32 ⌝ }
+    ensures { λ _. ⌜ now (part .exit) ≡ stateBytes (stateAs s) ⌝ }
+{
+    put_word(part, 0, s.key0);
+    put_word(part, 1, s.key1);
+    put_word(part, 2, s.last);
+    put_word(part, 3, s.next);
+}

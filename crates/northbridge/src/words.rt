@@ -1,0 +1,29 @@
+// The words of a slice: 64 bits each, the low byte first.
+use layout::word::get_low;
+use layout::word::put_low;
+ghost use mathlib.Core.Path.{_≡_};
+ghost use Prim.Native.Nat.{_+_, _*_, _≤_};
+ghost use lib.ListN.{length};
+ghost use borrow.Rule.Slice.PartMut.{putMid};
+ghost use Rattle.layout.specs.Bytes.{lowBytes};
+ghost use Rattle.layout.specs.SipHash.{word};
+
+// Word i.
+pub fn word_at(part: &[u8], i: usize) -> u64
+    requires { ⌜ 8 * i + 8 ≤ length (now part) ⌝ }
+    ensures { λ r. ⌜ r ≡ word (now (part .entry)) i ⌝ }
+{
+    let start = 8 * i;
+    let end = start + 8;
+    get_low(&part[start..end])
+}
+
+// Word i becomes w.
+pub fn put_word(part: &mut [u8], i: usize, w: u64)
+    requires { ⌜ 8 * i + 8 ≤ length (now part) ⌝ }
+    ensures { λ _. ⌜ now (part .exit) ≡ putMid (8 * i) 8 (now (part .entry)) (lowBytes 8 w) ⌝ }
+{
+    let start = 8 * i;
+    let end = start + 8;
+    put_low(&mut part[start..end], w);
+}
