@@ -17,7 +17,8 @@ use Rattle.machine.specs.Operations.{numberOf}
 use Rattle.machine.specs.Parts.{at, size}
 use Rattle.machine.specs.Steps.{pass, stop, Verdict, verdict}
 use Rattle.machine.specs.Stops.{Check, entryNamed, lineAlive, lineFormed, live, lockOpen, reachable}
-use Rattle.machine.proofs.Lent.{formed-inside, line-formed}
+use Rattle.machine.proofs.Basics.{range}
+use Rattle.machine.proofs.Fuel.{line-formed}
 use Rattle.checks.specs.Holds.{namedHolds}
 use Rattle.checks.specs.Answers.{liveVerdict, reachVerdict, Reaches, formedVerdict}
 use Rattle.checks.proofs.VerdictLaws.{andThen, parts-pass, passed, passes, stops, verdict-append}
@@ -117,7 +118,7 @@ reach-in m t k u h = live-in m t k (reach-is-live m t k u h)
 -- an entry that is there and not ill-formed lies in memory
 pub reached-inside : (m : ℕ) (t : List ℕ) (n : ℕ) → not (eqb (at t n .kind) 0) ≡ true → not (isIll (lineOf m t n)) ≡ true → at t n .base + at t n .length ≤ m
 reached-inside m t n full formed =
-    formed-inside m (at t n) (eqb-false (at t n .kind) 0 (not-true (eqb (at t n .kind) 0) full)) (line-formed m t n formed)
+    range m (at t n) (eqb-false (at t n .kind) 0 (not-true (eqb (at t n .kind) 0) full)) (line-formed m t n formed) .1
 
 -- what a token came to is known of a verdict that is the same
 pub reaches-as : (t : List ℕ) (r : Reached) (l : Line) (v w : Verdict) → w ≡ v → Reaches t r v l → Reaches t r w l

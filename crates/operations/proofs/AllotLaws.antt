@@ -14,7 +14,7 @@ use Rattle.machine.specs.Line.{isIll, lineOf}
 use Rattle.machine.specs.Parts as parts
 use Rattle.machine.specs.Parts.{at, leastEntries, mostEntries, mostMemory, size, spent}
 use Rattle.machine.specs.Steps.{pass, stop}
-use Rattle.machine.proofs.Basics.{seek-free}
+use Rattle.machine.proofs.Fuel.{number-first}
 use Rattle.operations.specs.Allotments.{allotVerdict, Settled}
 
 -- the ways out, where n is the number found
@@ -62,5 +62,5 @@ module _ (m : ℕ) (s : parts.State) (t : List ℕ) {X : Type 0} (h : Set m s t 
   unfolding size
   new-in some =
       let two : 2 ≤ length t / 32 = leb-true _ _ (h .1 .1 .1 .0) in
-      let i : newNumber s t < length t / 32 = seek-free (size t - 1) t (s .last) two (eqb-false _ _ (not-true _ some)) .1 in
+      let i : newNumber s t < length t / 32 = number-first s t (eqb-false _ _ (not-true _ some)) .inside in
       omega arith
