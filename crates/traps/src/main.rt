@@ -1,0 +1,160 @@
+// Paper 01's traps, a drop's climb and a lock under a drop, each over 64 bytes and 4 entries with
+// key 0 and first nonce 1. Prints a line for each request: what it tries, the refusal (0 granted),
+// and drop's number.
+use libc::STDOUT_FILENO;
+use operations::answer::Answer;
+use operations::answer::Served;
+use operations::answer::State;
+use operations::answer::refusal_of;
+
+fn first_token(r: Served) -> u64 {
+    let a = r.answer;
+    match a {
+        Answer::Granted {
+            first,
+            second: _,
+            dropped: _,
+        } => first,
+        Answer::Refused(_) => 0,
+    }
+}
+
+fn drop_number(a: Answer) -> u64 {
+    match a {
+        Answer::Granted {
+            first: _,
+            second: _,
+            dropped,
+        } => dropped,
+        Answer::Refused(_) => 0,
+    }
+}
+
+// Prints a line, and hands the state on.
+fn shown(what: &[u8], r: Served) -> State {
+    let a = r.answer;
+    io::write_all(STDOUT_FILENO, what);
+    io::write_all(STDOUT_FILENO, b" ");
+    io::print_decimal(STDOUT_FILENO, refusal_of(a));
+    io::write_all(STDOUT_FILENO, b" ");
+    io::print_decimal(STDOUT_FILENO, drop_number(a));
+    io::write_all(STDOUT_FILENO, b"\n");
+    r.state
+}
+
+fn read_one(s: State, table: &[u8], memory: &[u8], token: u64, task: u64) -> Served {
+    let mut buffer = [0u8; 1];
+    s.read(table, memory, &mut buffer, token, task)
+}
+
+fn started(table: &mut [u8], memory: &[u8]) -> State {
+    let blank = State {
+        key0: 0,
+        key1: 0,
+        last: 0,
+        next: 0,
+    };
+    let r = blank.reset(table, memory, 0, 0, 1);
+    r.state
+}
+
+// A child of the first eight bytes, with R.
+fn child(s: State, table: &mut [u8], memory: &[u8], parent: u64) -> Served {
+    s.derive(table, memory, parent, 0, 8, 4, 1)
+}
+
+// A child of that child.
+fn grandchild(s: State, table: &mut [u8], memory: &[u8], parent: u64) -> Served {
+    s.derive(table, memory, parent, 0, 7, 4, 1)
+}
+
+// Comparing the low 55 bits of a task: 2^55 + 7 is not 7.
+fn low_bits(table: &mut [u8], memory: &[u8]) {
+    let s = started(table, memory);
+    let s = shown(b"lock by 7", s.lock(table, memory, 0, 7));
+    let s = shown(b"read by 7", read_one(s, table, memory, 0, 7));
+    let s = shown(
+        b"read by 2^55 + 7",
+        read_one(s, table, memory, 0, 36028797018963975),
+    );
+    shown(b"read by 8", read_one(s, table, memory, 0, 8));
+}
+
+// A number given again does not revive a dead child, and a dead child can be dropped.
+fn given_again(table: &mut [u8], memory: &[u8]) {
+    let s = started(table, memory);
+    let a = child(s, table, memory, 0);
+    let b = grandchild(a.state, table, memory, first_token(a));
+    let s = shown(
+        b"drop the parent",
+        b.state.drop(table, memory, first_token(a)),
+    );
+    let s = shown(b"drop it again", s.drop(table, memory, first_token(a)));
+    let c = child(s, table, memory, 0);
+    let d = child(c.state, table, memory, 0);
+    let s = shown(
+        b"read through the dead child",
+        read_one(d.state, table, memory, first_token(b), 0),
+    );
+    shown(
+        b"drop the dead child",
+        s.drop(table, memory, first_token(b)),
+    );
+}
+
+// A plain address is not physical: after a revoke entry 0 has another tag.
+fn plain_address(table: &mut [u8], memory: &mut [u8]) {
+    let s = started(table, memory);
+    let s = shown(b"read at 0", read_one(s, table, memory, 0, 0));
+    let s = shown(b"revoke the root", s.revoke(table, memory, 0, 0));
+    shown(b"read at 0 again", read_one(s, table, memory, 0, 0));
+}
+
+// The climb of a drop: the last holder of a grandchild frees it, its parent and the root's count.
+fn climbed(table: &mut [u8], memory: &[u8]) {
+    let s = started(table, memory);
+    let a = child(s, table, memory, 0);
+    let b = grandchild(a.state, table, memory, first_token(a));
+    let s = shown(
+        b"drop the child at count 2",
+        b.state.drop(table, memory, first_token(a)),
+    );
+    let s = shown(
+        b"drop the grandchild",
+        s.drop(table, memory, first_token(b)),
+    );
+    let s = shown(
+        b"read through the child",
+        read_one(s, table, memory, first_token(a), 0),
+    );
+    shown(
+        b"create from the root",
+        s.create(table, memory, 0, 0, 16, 0, 7, 1),
+    );
+}
+
+// A lock under a drop: at count 1 nothing changes.
+fn locked(table: &mut [u8], memory: &[u8]) {
+    let s = started(table, memory);
+    let a = child(s, table, memory, 0);
+    let s = shown(
+        b"lock through the child",
+        a.state.lock(table, memory, first_token(a), 7),
+    );
+    let s = shown(
+        b"drop it under the lock",
+        s.drop(table, memory, first_token(a)),
+    );
+    let s = shown(b"unlock", s.unlock(table, memory, 0, 7));
+    shown(b"drop it unlocked", s.drop(table, memory, first_token(a)));
+}
+
+fn main() {
+    let mut table = [0u8; 128];
+    let mut memory = [0u8; 64];
+    low_bits(&mut table, &memory);
+    given_again(&mut table, &memory);
+    plain_address(&mut table, &mut memory);
+    climbed(&mut table, &memory);
+    locked(&mut table, &memory);
+}
