@@ -24,7 +24,7 @@ links p e = not (eqb (p .kind) 0) && eqb (p .tag) (parentTag e) && ltb (p .nonce
 abbrev pub linked : List ℕ → Entry → Bool
 linked t e = links (at t (parentNumber e)) e
 
--- A line ends at its owner, at the entry that holds a missing link ("A missing link makes it dead"), or at an ill-formed entry. "A walk stops
+-- "A direct entry is its own owner." A line ends at its owner, at the entry that holds a missing link ("A missing link makes it dead"), or at an ill-formed entry. "A walk stops
 -- at its first bad link or entry. A link is judged before the entry it leads to."
 pub data Line : Type 0 where
   owner : ℕ → Line

@@ -68,7 +68,7 @@ nameOf n e = record { number = n; tag = e .tag }
 abbrev pub tokenOf : (encoding : ℕ) → ℕ → Entry → ℕ
 tokenOf c n e = token c (record { tag = e .tag; number = n; offset = 0 })
 
--- the entry with another count; with another lock
+-- the entry with another count; with another lock. "Later changes of count or lock leave the tag."
 abbrev pub recount : Entry → ℕ → Entry
 recount e k = record {
   kind = e .kind;
@@ -107,7 +107,8 @@ relock e locked h = record {
 
 -- ---- the operations
 
--- reset: the root over all of memory, of m bytes, and zeros for all other entries
+-- reset: the root over all of memory, of m bytes, and zeros for all other entries. "Memory keeps its bytes." The root's token is given, though no
+-- answer carries it.
 abbrev pub grantReset : ℕ → List ℕ → (key0 key1 firstNonce : ℕ) → Decision
 grantReset m t k0 k1 ν =
     record { state = record { key0 = k0; key1 = k1; last = 0; next = ν }; table = put (cleared t) 0 (root m); reply = granted 0 0 0; issued = record { number = 0; tag = 0 } ∷ []; effect = nothing }
@@ -125,7 +126,7 @@ grantAccess s t w k b = plainly s t 0 (transfer w (namedEntry t k .base + named 
 abbrev pub partOf : State → List ℕ → Entry → (length user permissions : ℕ) → Entry
 partOf s t e l u p = issue s (newNumber s t) (direct (e .base) l u p (e .lockable) 0 (s .next))
 
--- "The rest keeps its number, is issued anew with base and length moved; at length 0 it is freed instead."
+-- "The rest keeps its number, is issued anew with base and length moved; at length 0 it is freed instead. The new number is sought before that."
 abbrev pub restOf : State → ℕ → Entry → (length : ℕ) → Entry
 restOf s n e l = issue s n (direct (e .base + l) (e .length - l) (e .user) (e .permissions) (e .lockable) 0 (s .next + 1))
 
@@ -162,7 +163,7 @@ grantDerive s t n o l p c =
 abbrev pub grantClone : State → List ℕ → ℕ → Decision
 grantClone s t n = plainly s (put t n (recount (at t n) (at t n .count + 1))) 0 nothing
 
--- drop, on an unlocked line: "a count of 2 or more falls by one"; at 1 "it falls to 0; a direct entry stays, while an indirect one is freed and
+-- drop, where no lock holds it back: "a count of 2 or more falls by one"; at 1 "it falls to 0; a direct entry stays, while an indirect one is freed and
 -- the drop climbs to its parent if that link holds. A climb that meets count 0 ends there." The nonce falls at each link.
 unfoldable pub climb : ℕ → List ℕ → ℕ → List ℕ
 climb zero t n = t
@@ -173,14 +174,16 @@ climb (suc steps) t n =
     let least = cond (eqb (at t n .count) 0) t last in
     cond (leb 2 (at t n .count)) (put t n (recount (at t n) (at t n .count - 1))) least
 
--- "At 1 under a locked owner nothing changes, answer 0. At 1 otherwise [..] answer 1."
+-- "At 1 under a locked owner nothing changes, answer 0. At 1 otherwise [..] answer 1. The answer is the named entry's. A dead line counts as
+-- unlocked."
 abbrev pub grantRelease : ℕ → State → List ℕ → ℕ → Decision
 grantRelease m s t n =
     let one = eqb (at t n .count) 1 in
     let locked = isLocked t (lineOf m t n) in
     plainly s (cond (one && locked) t (climb (suc (at t n .nonce)) t n)) (cond (one && not locked) 1 0) nothing
 
--- lock sets Locked and holder at the owner, unlock clears both
+-- lock, "through any token of the line, sets Locked and holder at the owner"; "by the holder again it [..] succeeds and changes nothing"; unlock
+-- clears both
 abbrev pub grantLock : State → List ℕ → ℕ → Bool → (holder : ℕ) → Decision
 grantLock s t owner locked h = plainly s (put t owner (relock (at t owner) locked h)) 0 nothing
 
@@ -199,7 +202,8 @@ grantRevoke s t n c =
     let new = revokedOf s t n in
     record { state = moved s (s .last) (revokeNonce s t n + 1); table = put t n new; reply = granted (tokenOf c n new) 0 0; issued = nameOf n new ∷ []; effect = store (at t n .base) (replicate (at t n .length) 0) }
 
--- what a granted request does, where the memory has m bytes and the request brings the buffer b
+-- what a granted request does, where the memory has m bytes and the request brings the buffer b. "Execute-only: the same [as derive], without the
+-- sum, over the whole segment with X alone."
 abbrev pub grant : ℕ → State → List ℕ → Request → List ℕ → Decision
 grant m s t (reset k0 k1 ν) b = grantReset m t k0 k1 ν
 grant m s t (access w k u) b = grantAccess s t w k b

@@ -15,6 +15,8 @@ rightOf reading = R
 rightOf writing = W
 rightOf fetching = X
 
+-- what each carries. A letter stands for the same thing wherever a request is taken apart: k, j tokens; u the task; l the length; x the user;
+-- p the permissions; c the encoding; o the offset; w the way; ν the first nonce. `release` is 01's drop.
 pub data Request : Type 0 where
   reset : (key0 key1 firstNonce : ℕ) → Request
   access : Way → (token task : ℕ) → Request
@@ -37,7 +39,7 @@ pub record Call : Type 0 where
 abbrev pub taskOf : Request → ℕ
 taskOf (reset k0 k1 ν) = 0
 taskOf (access w k u) = u
-taskOf (create k u l m p c) = u
+taskOf (create k u l x p c) = u
 taskOf (merge j k u c) = u
 taskOf (derive k o l p c) = 0
 taskOf (executeOnly k c) = 0

@@ -70,7 +70,8 @@ permissionsFit p = need 1 (leb p 7)
 abbrev pub someLength : ℕ → Check
 someLength l = need 1 (not (eqb l 0))
 
--- the user is a 64-bit mark
+-- The user is a 64-bit mark. 01's table does not list this, and no 64-bit request can reach it; the definitions are over all numbers, and a larger
+-- user would not fit its field.
 abbrev pub userFits : ℕ → Check
 userFits u = need 1 (ltb u (2 ^ 64))
 
