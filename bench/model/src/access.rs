@@ -1,0 +1,43 @@
+//! "Access (read, write, fetch): 1 to 4,096 bytes at the address's offset,
+//! wholly inside the segment, with R, W or X."
+
+use std::ops::Range;
+
+use crate::machine::Machine;
+use crate::permissions::lie_within;
+use crate::refusal::{need, Refusal};
+use crate::token::Token;
+use crate::{Answer, Request};
+
+impl Machine<'_> {
+    /// The bytes of memory that an access reaches.
+    #[inline]
+    fn reach(&self, request: &Request, right: u8, length: usize) -> Result<Range<usize>, Refusal> {
+        let (named, _) = self.table.line_for(request.token, request.task)?;
+        need(lie_within(right, named.entry.permissions), Refusal::Right)?;
+        // An offset is below 2^32 and the length at most 4,096.
+        let offset = Token::unpack(request.token).offset;
+        let end = offset + length as u64;
+        need(end <= u64::from(named.entry.length), Refusal::Bounds)?;
+        let start = (u64::from(named.entry.base) + offset) as usize;
+        Ok(start..start + length)
+    }
+
+    /// A read or a fetch.
+    pub fn read(&self, request: &Request, right: u8, buffer: &mut [u8]) -> Result<Answer, Refusal> {
+        let reach = self.reach(request, right, buffer.len())?;
+        buffer.copy_from_slice(self.memory.get(reach).ok_or(Refusal::Bounds)?);
+        Ok(Answer::GRANTED)
+    }
+
+    pub fn write(
+        &mut self,
+        request: &Request,
+        right: u8,
+        buffer: &[u8],
+    ) -> Result<Answer, Refusal> {
+        let reach = self.reach(request, right, buffer.len())?;
+        self.memory.get_mut(reach).ok_or(Refusal::Bounds)?.copy_from_slice(buffer);
+        Ok(Answer::GRANTED)
+    }
+}

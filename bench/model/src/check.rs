@@ -1,0 +1,57 @@
+//! Place 1: the request itself. Each request is judged by the words that it
+//! uses, and by no others.
+
+use crate::refusal::{need, Refusal};
+use crate::token::Token;
+use crate::{operation, Request, State};
+
+/// The next nonce once all are used: "the last means spent".
+pub const SPENT: u64 = 1 << 32;
+
+/// "1 to 16,777,216 bytes" and "2 to 1,024 entries of 32 bytes".
+#[inline]
+pub fn sizes(entries: usize, odd_bytes: usize, memory: usize) -> Result<(), Refusal> {
+    let table = (2..=1024).contains(&entries) && odd_bytes == 0;
+    need(table && (1..=1 << 24).contains(&memory), Refusal::Request)
+}
+
+/// "the last number given (inside the table), and the next nonce (1 to
+/// 4,294,967,296)". Reset takes no state, so it judges none.
+#[inline]
+pub fn state(state: &State, entries: usize) -> Result<(), Refusal> {
+    let last = state.last < entries as u64;
+    need(last && (1..=SPENT).contains(&state.next), Refusal::Request)
+}
+
+/// "a first nonce (1 to 4,294,967,295)"
+#[inline]
+pub fn first_nonce(nonce: u64) -> Result<(), Refusal> {
+    need((1..SPENT).contains(&nonce), Refusal::Request)
+}
+
+/// The words of any request but a reset.
+#[inline]
+pub fn words(request: &Request, buffer: usize) -> Result<(), Refusal> {
+    // "An offset in the token of any request but an access."
+    let plain = |word| Token::unpack(word).offset == 0;
+    let task = request.task < 1 << 55;
+    let encoding = request.encoding <= 3;
+    let permissions = request.permissions <= 7;
+    let sound = match request.operation {
+        // "1 to 4,096 bytes"
+        operation::READ | operation::WRITE | operation::FETCH => {
+            task && (1..=4096).contains(&buffer)
+        }
+        operation::CREATE => {
+            plain(request.token) && task && request.length != 0 && permissions && encoding
+        }
+        operation::MERGE => plain(request.token) && plain(request.second) && task && encoding,
+        operation::DERIVE => plain(request.token) && request.length != 0 && permissions && encoding,
+        operation::EXECUTE_ONLY | operation::REVOKE => plain(request.token) && encoding,
+        operation::CLONE | operation::DROP => plain(request.token),
+        // "lock or unlock with task 0 (task 0 means none)"
+        operation::LOCK | operation::UNLOCK => plain(request.token) && task && request.task != 0,
+        _ => false,
+    };
+    need(sound, Refusal::Request)
+}

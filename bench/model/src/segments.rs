@@ -1,0 +1,128 @@
+//! What the owner of a segment asks for: create, merge, revoke.
+
+use crate::check::SPENT;
+use crate::entry::{Direct, Entry, Kind};
+use crate::machine::Machine;
+use crate::permissions::{self, lie_within};
+use crate::refusal::{need, Refusal};
+use crate::table::Met;
+use crate::token::naming;
+use crate::{Answer, Request};
+
+/// Place 6: "create, merge, revoke of an indirect entry".
+#[inline]
+fn need_direct(met: &Met) -> Result<Direct, Refusal> {
+    match met.entry.kind {
+        Kind::Direct(direct) => Ok(direct),
+        Kind::Indirect(_) => Err(Refusal::Kind),
+    }
+}
+
+/// Place 9: "create or merge when locked or count not 0".
+#[inline]
+fn at_rest(entry: &Entry, direct: &Direct) -> bool {
+    direct.holder == 0 && entry.count == 0
+}
+
+impl Machine<'_> {
+    /// "cuts a front part of the wanted length, at most the whole"
+    pub fn create(&mut self, request: &Request) -> Result<Answer, Refusal> {
+        let (named, _) = self.table.line_for(request.token, request.task)?;
+        let old = named.entry;
+        let direct = need_direct(&named)?;
+        let wanted = request.permissions as u8;
+        need(lie_within(wanted, old.permissions), Refusal::Right)?;
+        need(request.length <= u64::from(old.length), Refusal::Bounds)?;
+        need(at_rest(&old, &direct), Refusal::Standing)?;
+        // "The new number is sought before that": a number about to be freed
+        // is not yet free.
+        let number = self.need_number()?;
+        let length = request.length as u32;
+        let whole = length == old.length;
+        self.need_nonces(if whole { 1 } else { 2 })?;
+
+        // "The part gets a new number and is issued first: count 0, the
+        // request's user, the request's permissions, Lockable as before."
+        let part = Entry {
+            length,
+            permissions: wanted,
+            kind: Kind::Direct(Direct { user: request.user, ..direct }),
+            ..old
+        };
+        self.state.last = number as u64;
+        let tag = self.issue(number, &part);
+        let first = naming(number, tag, request.encoding);
+
+        // "The rest keeps its number, is issued anew with base and length
+        // moved; at length 0 it is freed instead."
+        let second = if whole {
+            self.table.free(named.number);
+            0
+        } else {
+            let rest = Entry { base: old.base + length, length: old.length - length, ..old };
+            let tag = self.issue(named.number, &rest);
+            naming(named.number, tag, request.encoding)
+        };
+        Ok(Answer { first, second, ..Answer::GRANTED })
+    }
+
+    /// "the first is issued anew over both with the permissions both have, its
+    /// own user and Lockable; the second is freed"
+    pub fn merge(&mut self, request: &Request) -> Result<Answer, Refusal> {
+        // "Places 2 to 5 are done for a merge's first token, then its second."
+        let (first, _) = self.table.line_for(request.token, request.task)?;
+        let (second, _) = self.table.line_for(request.second, request.task)?;
+        let first_direct = need_direct(&first)?;
+        let second_direct = need_direct(&second)?;
+        // "the second begins where the first ends"
+        let end = u64::from(first.entry.base) + u64::from(first.entry.length);
+        need(end == u64::from(second.entry.base), Refusal::Bounds)?;
+        let at_rest =
+            at_rest(&first.entry, &first_direct) && at_rest(&second.entry, &second_direct);
+        need(at_rest, Refusal::Standing)?;
+        self.need_nonces(1)?;
+
+        // Both lie inside memory, one behind the other: the sum fits.
+        let both = Entry {
+            length: first.entry.length + second.entry.length,
+            permissions: first.entry.permissions & second.entry.permissions,
+            ..first.entry
+        };
+        let tag = self.issue(first.number, &both);
+        self.table.free(second.number);
+        let first = naming(first.number, tag, request.encoding);
+        Ok(Answer { first, ..Answer::GRANTED })
+    }
+
+    /// "zeros the segment and issues the same number over it: count 0, R W X,
+    /// Lockable, unlocked, user 0"
+    pub fn revoke(&mut self, request: &Request) -> Result<Answer, Refusal> {
+        let (named, _) = self.table.line(request.token)?;
+        need_direct(&named)?;
+        let old = named.entry;
+        let new = Entry {
+            count: 0,
+            permissions: permissions::ALL,
+            kind: Kind::Direct(Direct { holder: 0, user: 0, lockable: true }),
+            ..old
+        };
+        // "Nonces whose tag equals the old one are passed over."
+        let mut nonce = self.state.next;
+        let raw = loop {
+            need(nonce < SPENT, Refusal::Nonces)?;
+            let raw = self.issued(named.number, &new, nonce);
+            nonce += 1;
+            if raw.tag() != old.tag {
+                break raw;
+            }
+        };
+        let start = old.base as usize;
+        if let Some(segment) = self.memory.get_mut(start..start + old.length as usize) {
+            segment.fill(0);
+        }
+        self.table.store(named.number, raw);
+        self.state.next = nonce;
+        let first = naming(named.number, raw.tag(), request.encoding);
+        Ok(Answer { first, ..Answer::GRANTED })
+    }
+}

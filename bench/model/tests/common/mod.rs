@@ -1,0 +1,209 @@
+//! A machine with buffers of its own, asked through `serve` alone.
+#![allow(dead_code)]
+
+use model::operation::*;
+use model::{serve, Answer, Request, State};
+
+#[derive(Clone, Debug, PartialEq, Eq)]
+pub struct Rig {
+    pub state: State,
+    pub table: Vec<u8>,
+    pub memory: Vec<u8>,
+}
+
+pub const SPENT: u64 = 1 << 32;
+
+impl Rig {
+    pub fn bare(memory: usize, entries: usize) -> Rig {
+        let (table, memory) = (vec![0; 32 * entries], vec![0; memory]);
+        Rig { state: State::default(), table, memory }
+    }
+
+    /// After a granted reset with key 0 and first nonce 1.
+    pub fn new(memory: usize, entries: usize) -> Rig {
+        let mut rig = Rig::bare(memory, entries);
+        assert_eq!(rig.reset(0, 0, 1).refusal, 0);
+        rig
+    }
+
+    /// Serves one request, and sees to it that a refusal changes nothing and
+    /// carries neither token nor number.
+    pub fn ask_with(&mut self, request: Request, buffer: &mut [u8]) -> Answer {
+        let before = (self.clone(), buffer.to_vec());
+        let answer = serve(request, &mut self.state, &mut self.table, &mut self.memory, buffer);
+        assert!(answer.refusal <= 11);
+        if answer.refusal != 0 {
+            assert_eq!(before, (self.clone(), buffer.to_vec()));
+            assert_eq!((answer.first, answer.second, answer.dropped), (0, 0, 0));
+        }
+        assert_eq!(answer.place != 0, matches!(answer.refusal, 3 | 4));
+        answer
+    }
+
+    pub fn ask(&mut self, request: Request) -> Answer {
+        self.ask_with(request, &mut [])
+    }
+
+    pub fn reset(&mut self, key0: u64, key1: u64, nonce: u64) -> Answer {
+        self.ask(Request {
+            operation: RESET,
+            token: key0,
+            second: key1,
+            task: nonce,
+            ..Request::default()
+        })
+    }
+
+    pub fn access(&mut self, operation: u64, token: u64, length: usize, task: u64) -> u64 {
+        let mut buffer = vec![0xB5; length];
+        self.ask_with(Request { operation, token, task, ..Request::default() }, &mut buffer).refusal
+    }
+
+    pub fn read(&mut self, token: u64, length: usize, task: u64) -> Result<Vec<u8>, u64> {
+        let mut buffer = vec![0; length];
+        let request = Request { operation: READ, token, task, ..Request::default() };
+        match self.ask_with(request, &mut buffer).refusal {
+            0 => Ok(buffer),
+            refusal => Err(refusal),
+        }
+    }
+
+    pub fn write(&mut self, token: u64, bytes: &[u8], task: u64) -> u64 {
+        let request = Request { operation: WRITE, token, task, ..Request::default() };
+        self.ask_with(request, &mut bytes.to_vec()).refusal
+    }
+
+    pub fn create(&mut self, token: u64, length: u64, permissions: u64) -> Answer {
+        self.ask(Request { operation: CREATE, token, length, permissions, ..Request::default() })
+    }
+
+    pub fn merge(&mut self, token: u64, second: u64) -> Answer {
+        self.ask(Request { operation: MERGE, token, second, ..Request::default() })
+    }
+
+    pub fn derive(&mut self, token: u64, offset: u64, length: u64, permissions: u64) -> Answer {
+        let second = offset;
+        self.ask(Request {
+            operation: DERIVE,
+            token,
+            second,
+            length,
+            permissions,
+            ..Request::default()
+        })
+    }
+
+    /// A request that has a token alone: execute-only, clone, drop, revoke.
+    pub fn simple(&mut self, operation: u64, token: u64) -> Answer {
+        self.ask(Request { operation, token, ..Request::default() })
+    }
+
+    pub fn lock(&mut self, token: u64, task: u64) -> u64 {
+        self.ask(Request { operation: LOCK, token, task, ..Request::default() }).refusal
+    }
+
+    pub fn unlock(&mut self, token: u64, task: u64) -> u64 {
+        self.ask(Request { operation: UNLOCK, token, task, ..Request::default() }).refusal
+    }
+
+    /// A field of an entry by its place in Table 2, from the top bit.
+    pub fn bits(&self, number: usize, from: usize, width: usize) -> u64 {
+        (from..from + width).fold(0, |value, at| {
+            let byte = self.table[32 * number + at / 8];
+            value << 1 | u64::from(byte >> (7 - at % 8) & 1)
+        })
+    }
+
+    pub fn set(&mut self, number: usize, from: usize, width: usize, value: u64) {
+        for at in from..from + width {
+            let bit = (value >> (from + width - 1 - at) & 1) as u8;
+            let byte = &mut self.table[32 * number + at / 8];
+            *byte = *byte & !(0x80 >> (at % 8)) | bit << (7 - at % 8);
+        }
+    }
+
+    pub fn kind(&self, number: usize) -> u64 {
+        self.bits(number, 0, 3)
+    }
+
+    pub fn base(&self, number: usize) -> u64 {
+        self.bits(number, 3, 32)
+    }
+
+    pub fn length(&self, number: usize) -> u64 {
+        self.bits(number, if self.kind(number) == 1 { 35 } else { 99 }, 32)
+    }
+
+    fn count_at(&self, number: usize) -> usize {
+        if self.kind(number) == 1 {
+            67
+        } else {
+            131
+        }
+    }
+
+    pub fn count(&self, number: usize) -> u64 {
+        self.bits(number, self.count_at(number), 16)
+    }
+
+    pub fn set_count(&mut self, number: usize, count: u64) {
+        self.set(number, self.count_at(number), 16, count);
+    }
+
+    pub fn holder(&self, number: usize) -> u64 {
+        self.bits(number, 83, 55)
+    }
+
+    pub fn user(&self, number: usize) -> u64 {
+        self.bits(number, 138, 64)
+    }
+
+    pub fn parent(&self, number: usize) -> u64 {
+        self.bits(number, 35, 64)
+    }
+
+    pub fn permissions(&self, number: usize) -> u64 {
+        self.bits(number, 202, 3)
+    }
+
+    pub fn locked(&self, number: usize) -> u64 {
+        self.bits(number, 205, 1)
+    }
+
+    pub fn lockable(&self, number: usize) -> u64 {
+        self.bits(number, 206, 1)
+    }
+
+    pub fn tag(&self, number: usize) -> u64 {
+        self.bits(number, 208, 16)
+    }
+
+    pub fn nonce(&self, number: usize) -> u64 {
+        self.bits(number, 224, 32)
+    }
+
+    /// A token in encoding 0 for what stands at a number.
+    pub fn token(&self, number: usize) -> u64 {
+        self.tag(number) << 46 | (number as u64) << 32
+    }
+}
+
+/// A small generator of numbers.
+pub struct Dice(pub u64);
+
+impl Dice {
+    pub fn word(&mut self) -> u64 {
+        self.0 = self.0.wrapping_add(0x9e37_79b9_7f4a_7c15);
+        let x = (self.0 ^ (self.0 >> 30)).wrapping_mul(0xbf58_476d_1ce4_e5b9);
+        let x = (x ^ (x >> 27)).wrapping_mul(0x94d0_49bb_1331_11eb);
+        x ^ (x >> 31)
+    }
+
+    pub fn below(&mut self, end: u64) -> u64 {
+        self.word() % end
+    }
+
+    pub fn one_of(&mut self, list: &[u64]) -> u64 {
+        list[self.below(list.len() as u64) as usize]
+    }
+}
