@@ -11,11 +11,11 @@ use lib.Pow.{pow-add, pow-pos, shr-lt, shr-mod}
 use lib.Dec.{eqb, lit<, ltb}
 use lib.ListN.{getD, drop}
 use borrow.Author.Tests.{ltb-true}
-use Rattle.layout.specs.Fields.{bits, pack, unpack, Fit}
+use Rattle.bits.specs.Fields.{bits, pack, unpack, Fit}
 use Rattle.layout.specs.Entry.{direct, free, indirect, wordWidths, wordList, wordsNumber, bit, endWidths, endFields, endFrom, directWidths, directFields, directNumber, directFrom, directOf, indirectWidths, indirectFields, indirectNumber, indirectFrom, indirectOf, typeOf, packAs, unpackAs, entryNumber, entryOf, packable, Fits, Storable, isFree, isDirect, isIndirect}
 use Rattle.layout.specs.declared.entry.Words.{Words}
 use Rattle.layout.specs.declared.entry.Entry.{Entry}
-use Rattle.layout.proofs.FieldLaws.{pack-lt, unpack-pack, pack-unpack, unpack-fit, regroup-pack, regroup-unpack, cut, groups}
+use Rattle.bits.proofs.FieldLaws.{pack-lt, unpack-pack, pack-unpack, unpack-fit, regroup-pack, regroup-unpack, cut, groups}
 use Rattle.layout.proofs.TestLaws.{both}
 
 -- a field that runs over a word's end: its high part is the low i bits of x, its low part the j bits of y above the lowest k

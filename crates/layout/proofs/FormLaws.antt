@@ -6,14 +6,14 @@ use mathlib.Core.List.{List}
 use Prim.Native.Nat.{ℕ, zero, suc}
 use native.Mathlib.Omega.{arith}
 use lib.ListN.{replicate}
-use Rattle.layout.specs.Bytes.{bytes, number}
+use Rattle.bits.specs.Bytes.{bytes, number}
 use Rattle.layout.specs.Entry.{directOf, entryAt, entryBytes, entryNumber, entryOf, free, indirectOf, Storable, typeOf, unpackAs}
-use Rattle.layout.specs.Fields.{Fit}
+use Rattle.bits.specs.Fields.{Fit}
 use Rattle.layout.specs.Form.{faultsOf, illFormed, orSome}
 use Rattle.layout.specs.declared.entry.Entry.{Entry}
-use Rattle.layout.proofs.ByteLaws.{bytes-number, number-bytes}
+use Rattle.bits.proofs.ByteLaws.{bytes-number, number-bytes}
 use Rattle.layout.proofs.EntryLaws.{back, Laid, number-lt, one, round, two}
-use Rattle.layout.proofs.FieldLaws.{pack-lt}
+use Rattle.bits.proofs.FieldLaws.{pack-lt}
 
 -- locked without a holder, or a holder without the lock: the lock is there just if the holder is zero
 pub lock-broken : (locked zero : Bool) → Bool·beq locked zero ≡ (locked && zero || not locked && not zero)

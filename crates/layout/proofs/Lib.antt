@@ -1,10 +1,8 @@
-pub mod ByteLaws
 pub mod EntryLaws
 pub mod Examples
-pub mod FieldLaws
 pub mod FormLaws
 pub mod PermissionLaws
-pub mod SipLaws
 pub mod TagLaws
 pub mod TestLaws
 pub mod TokenLaws
+pub mod WordLaws

@@ -4,16 +4,17 @@ use mathlib.Core.Path.{_≡_, refl, sym, _∙_, ap}
 use mathlib.Core.List.{List, _++_}
 use Prim.Native.Nat.{ℕ, _/_, _%_, _^_, _<_}
 use lib.ListN.{length}
-use Rattle.layout.specs.Bytes.{bytes, lowBytes, lowNumber, number}
+use Rattle.bits.specs.Bytes.{bytes, lowBytes, lowNumber, number}
 use Rattle.layout.specs.Entry.{entryNumber, wordList, wordsNumber, wordWidths}
-use Rattle.layout.specs.Fields.{Fit, pack}
-use Rattle.layout.specs.SipHash.{absorb, compress, finish, padded, siphash, start, word}
+use Rattle.bits.specs.Fields.{Fit, pack}
+use Rattle.bits.specs.SipHash.{absorb, compress, finish, padded, siphash, start, word}
 use Rattle.layout.specs.Tag.{retag, tagOf}
 use Rattle.layout.specs.declared.entry.Entry.{Entry}
 use Rattle.layout.specs.declared.entry.Words.{Words}
-use Rattle.layout.specs.declared.siphash.Lanes.{Lanes}
-use Rattle.layout.proofs.ByteLaws.{bytes-words, cut-eights, low-round}
-use Rattle.layout.proofs.SipLaws.{hashed}
+use Rattle.bits.specs.declared.siphash.Lanes.{Lanes}
+use Rattle.bits.proofs.ByteLaws.{low-round}
+use Rattle.layout.proofs.WordLaws.{bytes-words, cut-eights}
+use Rattle.bits.proofs.SipLaws.{hashed}
 
 -- the word as SipHash reads its bytes
 abbrev pub low : ℕ → ℕ

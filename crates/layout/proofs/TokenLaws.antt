@@ -9,10 +9,10 @@ use native.Mathlib.Omega.{arith}
 use lib.ListN.{getD}
 use lib.Pow.{pow-pos}
 use borrow.Author.Tests.{ltb-true}
-use Rattle.layout.specs.Fields.{bits, pack, unpack, Fit}
+use Rattle.bits.specs.Fields.{bits, pack, unpack, Fit}
 use Rattle.layout.specs.Token.{numberWidth, offsetWidth, tokenWidths, tokenFields, tokenIn, namedIn, NamedFits, token, named, namedAs, encodingOf, fitsAs}
 use Rattle.layout.specs.declared.token.Named.{Named}
-use Rattle.layout.proofs.FieldLaws.{unpack-pack, pack-unpack}
+use Rattle.bits.proofs.FieldLaws.{unpack-pack, pack-unpack}
 use Rattle.layout.proofs.TestLaws.{both}
 
 -- the fields of a word are its top bits and what `namedIn` reads

@@ -7,8 +7,8 @@ use mathlib.Core.List.{List, [], _∷_}
 use Prim.Native.Nat.{ℕ, zero, suc, _<_, _^_}
 use lib.Dec.{eqb, ltb}
 use lib.ListN.{getD, length}
-use Rattle.layout.specs.Bytes.{bytes, number}
-use Rattle.layout.specs.Fields.{pack, unpack, Fit}
+use Rattle.bits.specs.Bytes.{bytes, number}
+use Rattle.bits.specs.Fields.{pack, unpack, Fit}
 use Rattle.layout.specs.declared.entry.Entry.{Entry}
 use Rattle.layout.specs.declared.entry.Held.{Held}
 use Rattle.layout.specs.declared.entry.Held.the-variants.{IsEntry, NotAnEntry}

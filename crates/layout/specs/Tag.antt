@@ -3,9 +3,9 @@
 -- Assumes nothing.
 use mathlib.Core.List.{List, _++_}
 use Prim.Native.Nat.{ℕ, _%_, _^_}
-use Rattle.layout.specs.Bytes.{lowBytes}
+use Rattle.bits.specs.Bytes.{lowBytes}
 use Rattle.layout.specs.Entry.{entryBytes}
-use Rattle.layout.specs.SipHash.{siphash}
+use Rattle.bits.specs.SipHash.{siphash}
 use Rattle.layout.specs.declared.entry.Entry.{Entry}
 
 -- the entry with another tag

@@ -5,7 +5,7 @@ use mathlib.Core.List.{List, [], _∷_}
 use Prim.Native.Nat.{ℕ, _+_, _^_, _/_, _%_}
 use lib.Dec.{ltb}
 use lib.ListN.{getD}
-use Rattle.layout.specs.Fields.{pack, Fit}
+use Rattle.bits.specs.Fields.{pack, Fit}
 use Rattle.layout.specs.declared.token.Named.{Named}
 use Rattle.layout.specs.declared.token.Packing.{Packing}
 use Rattle.layout.specs.declared.token.Packing.the-variants.{Token, TooWide}

@@ -1,12 +1,12 @@
 // Entries of the capability metadata table (Table 2): 32 bytes, byte 0 with the top bits.
-use crate::word::get;
-use crate::word::put;
+use bits::word::get;
+use bits::word::put;
 ghost use mathlib.Core.Path.{_≡_};
 ghost use mathlib.Core.List.{[], _∷_};
 ghost use Prim.Native.Nat.{_<_, _^_, _/_, _%_};
 ghost use lib.ListN.{length};
-ghost use Rattle.layout.specs.Fields.{pack, unpack};
-ghost use Rattle.layout.specs.Bytes.{bytes, number};
+ghost use Rattle.bits.specs.Fields.{pack, unpack};
+ghost use Rattle.bits.specs.Bytes.{bytes, number};
 ghost use Rattle.layout.specs.Entry.{bit, direct, directNumber, directOf, endFields, endFrom, endWidths, entryAt, entryBytes, entryNumber, entryOf, Fits, free, held, indirect, indirectNumber, indirectOf, packable, wordsNumber, writable, written};
 
 // An entry: every field of every type. A field that its type does not have is zero.

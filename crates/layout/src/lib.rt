@@ -2,7 +2,5 @@
 pub mod entry;
 pub mod form;
 pub mod permissions;
-pub mod siphash;
 pub mod tag;
 pub mod token;
-pub mod word;

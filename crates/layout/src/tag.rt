@@ -1,10 +1,10 @@
 // Tags: SipHash-2-4 over an entry and its number.
 use crate::entry::Entry;
 use crate::entry::words_of;
-use crate::siphash::compress;
-use crate::siphash::finish;
-use crate::siphash::start;
-use crate::word::swapped;
+use bits::siphash::compress;
+use bits::siphash::finish;
+use bits::siphash::start;
+use bits::word::swapped;
 ghost use mathlib.Core.Path.{_≡_};
 ghost use Rattle.layout.specs.Entry.{Fits};
 ghost use Rattle.layout.specs.Tag.{tagOf};

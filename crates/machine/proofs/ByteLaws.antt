@@ -5,11 +5,11 @@ use Prim.Native.Nat.{ℕ, zero, suc, _<_}
 use native.Mathlib.Omega.{arith}
 use lib.ListN.{drop, replicate, set, take}
 use lib.Seq.{sets}
-use Rattle.layout.specs.Bytes.{bytes}
+use Rattle.bits.specs.Bytes.{bytes}
 use Rattle.layout.specs.Entry.{entryBytes, entryNumber}
-use Rattle.layout.specs.Fields.{Fit}
+use Rattle.bits.specs.Fields.{Fit}
 use Rattle.layout.specs.declared.entry.Entry.{Entry}
-use Rattle.layout.proofs.FieldLaws.{unpack-fit}
+use Rattle.bits.proofs.FieldLaws.{unpack-fit}
 use Rattle.machine.specs.Lent.{AllBytes}
 
 pub bytes-take : (n : ℕ) (l : List ℕ) → AllBytes l → AllBytes (take n l)

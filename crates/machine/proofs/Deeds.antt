@@ -12,7 +12,7 @@ use lib.Dec.{leb, ltb, eqb}
 use lib.ListN.{length, length-replicate}
 use borrow.Author.Tests.{eqb-false, eqb-true, leb-true, ltb-false, ltb-true, ne-eqb, not-true}
 use Rattle.layout.specs.Entry.{direct, directFields, directWidths, free}
-use Rattle.layout.specs.Fields.{Fit}
+use Rattle.bits.specs.Fields.{Fit}
 use Rattle.layout.specs.Permissions.{X}
 use Rattle.layout.specs.Token.{named}
 use Rattle.layout.specs.declared.entry.Entry.{Entry}

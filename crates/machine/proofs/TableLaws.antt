@@ -11,7 +11,7 @@ use lib.Seq.{sets, sets-eq, length-sets, drop-drop}
 use borrow.Author.Tests.{lt-ltb, le-ltb}
 use Rattle.layout.specs.Entry.{entryAt, entryBytes, entryNumber, free, Storable}
 use Rattle.layout.specs.declared.entry.Entry.{Entry}
-use Rattle.layout.proofs.ByteLaws.{length-bytes}
+use Rattle.bits.proofs.ByteLaws.{length-bytes}
 use Rattle.layout.proofs.FormLaws.{free-back, written-read}
 use Rattle.machine.specs.Parts.{at, cleared, put, size}
 use Rattle.machine.specs.Lent.{AllBytes}

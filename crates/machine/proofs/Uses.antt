@@ -7,11 +7,11 @@ use Prim.Native.Nat.{ℕ}
 use native.Mathlib.Omega.{arith}
 use lib.ListN.{getD, length-set}
 use lib.Seq.{getD-set-other}
-use Rattle.layout.specs.Bytes.{bytes, lowBytes, lowNumber, number}
+use Rattle.bits.specs.Bytes.{bytes, lowBytes, lowNumber, number}
 use Rattle.layout.specs.Entry.{directNumber, directOf, entryNumber, entryOf, indirectNumber, indirectOf}
 use Rattle.layout.specs.Form.{illFormed}
 use Rattle.layout.specs.Permissions.{within}
-use Rattle.layout.specs.SipHash.{absorb, add64, compress, finish, padded, rotl, siphash, sipRound, word}
+use Rattle.bits.specs.SipHash.{absorb, add64, compress, finish, padded, rotl, siphash, sipRound, word}
 use Rattle.layout.specs.Tag.{tagOf}
 use Rattle.layout.specs.declared.entry.Entry.{Entry}
 use Rattle.machine.specs.Demand3.{above, Accepted, Alike, Closed, Demand3, In, issuedIn, itself, LockedFor, NoReset, Secret}

@@ -11,13 +11,13 @@ use lib.Dec.{eqb}
 use lib.Pow.{pow-pos}
 use borrow.Author.Tests.{le-ltb, ne-eqb}
 use Rattle.layout.specs.Entry.{bit, direct, directFields, directWidths, free, indirect, isDirect, isFree, isIndirect, Storable}
-use Rattle.layout.specs.Fields.{Fit}
+use Rattle.bits.specs.Fields.{Fit}
 use Rattle.layout.specs.Form.{endPastMemory, faultsOf, holderWithoutLock, illFormed, lengthZero, lockedWithoutHolder, orSome}
 use Rattle.layout.specs.Tag.{tagOf}
 use Rattle.layout.specs.Token.{namedAs, NamedFits, tokenFields, tokenWidths}
 use Rattle.layout.specs.declared.entry.Entry.{Entry}
 use Rattle.layout.specs.declared.token.Named.{Named}
-use Rattle.layout.proofs.FieldLaws.{pack-lt}
+use Rattle.bits.proofs.FieldLaws.{pack-lt}
 use Rattle.layout.proofs.FormLaws.{ill-as}
 use Rattle.layout.proofs.TokenLaws.{encoding-of, named-of}
 use Rattle.machine.specs.Issuing.{issue}

@@ -5,9 +5,9 @@ use mathlib.Core.Logic.{_≢_}
 use mathlib.Core.List.{List, reverse, reverse-reverse}
 use Prim.Native.Nat.{ℕ, _+_, _<_}
 use lib.ListN.{getD, length}
-use Rattle.layout.specs.Bytes.{lowBytes, lowNumber}
-use Rattle.layout.specs.SipHash.{word}
-use Rattle.layout.proofs.ByteLaws.{by-elements, bytes-number, tabulate}
+use Rattle.bits.specs.Bytes.{lowBytes, lowNumber}
+use Rattle.bits.specs.SipHash.{word}
+use Rattle.bits.proofs.ByteLaws.{by-elements, bytes-number, tabulate}
 use Rattle.machine.specs.Requests.{Call, Request}
 use Rattle.machine.specs.Steps.{Machine}
 use Rattle.machine.proofs.Refused.{refused-keeps}

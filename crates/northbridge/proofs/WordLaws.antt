@@ -7,8 +7,8 @@ use Prim.Native.Nat.{ℕ, zero, suc, _≤_}
 use native.Mathlib.Omega.{arith}
 use lib.ListN.{length, List·getD-eq-default}
 use borrow.Rule.Slice.PartMut.{putMid}
-use Rattle.layout.specs.Bytes.{bytes, lowBytes}
-use Rattle.layout.proofs.ByteLaws.{by-elements}
+use Rattle.bits.specs.Bytes.{bytes, lowBytes}
+use Rattle.bits.proofs.ByteLaws.{by-elements}
 use Rattle.northbridge.specs.Exported.{picked, requests, unknown, wordBytes}
 
 -- words stored one after the other are the bytes of the whole

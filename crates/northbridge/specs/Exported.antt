@@ -6,8 +6,8 @@ use mathlib.Core.List.{List, [], _∷_, _++_}
 use Prim.Native.Nat.{ℕ}
 use lib.Dec.{eqb}
 use lib.ListN.{getD, length}
-use Rattle.layout.specs.Bytes.{lowBytes}
-use Rattle.layout.specs.SipHash.{word}
+use Rattle.bits.specs.Bytes.{lowBytes}
+use Rattle.bits.specs.SipHash.{word}
 use Rattle.machine.specs.Operations.{Reply}
 use Rattle.machine.specs.Parts.{State}
 use Rattle.machine.specs.Requests.{access, Call, clone, create, derive, executeOnly, fetching, lock, merge, reading, release, Request, reset, revoke, unlock, writing}

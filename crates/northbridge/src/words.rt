@@ -1,12 +1,12 @@
 // The words of a slice: 64 bits each, the low byte first.
-use layout::word::get_low;
-use layout::word::put_low;
+use bits::word::get_low;
+use bits::word::put_low;
 ghost use mathlib.Core.Path.{_≡_};
 ghost use Prim.Native.Nat.{_+_, _*_, _≤_};
 ghost use lib.ListN.{length};
 ghost use borrow.Rule.Slice.PartMut.{putMid};
-ghost use Rattle.layout.specs.Bytes.{lowBytes};
-ghost use Rattle.layout.specs.SipHash.{word};
+ghost use Rattle.bits.specs.Bytes.{lowBytes};
+ghost use Rattle.bits.specs.SipHash.{word};
 
 // Word i.
 pub fn word_at(part: &[u8], i: usize) -> u64

@@ -1,12 +1,12 @@
 // Prints the published SipHash-2-4 vectors and 01's packed examples, as the code makes them.
+use bits::siphash::siphash;
+use bits::word::get;
+use bits::word::swapped;
 use layout::entry::direct;
 use layout::entry::write;
-use layout::siphash::siphash;
 use layout::token::Named;
 use layout::token::Packing;
 use layout::token::pack;
-use layout::word::get;
-use layout::word::swapped;
 use libc::STDOUT_FILENO;
 
 fn end_line() {

@@ -2,7 +2,7 @@
 -- Assumes nothing.
 use mathlib.Core.Path.{_∙_, ap}
 use borrow.Author.Needs.{needs}
-use Rattle.layout.specs.Bytes.{bytes}
+use Rattle.bits.specs.Bytes.{bytes}
 use Rattle.layout.proofs.entry.store.Statement.{statement}
 use Rattle.layout.proofs.entry.store.Tie as tie
 

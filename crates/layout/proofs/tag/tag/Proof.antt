@@ -3,7 +3,7 @@
 use borrow.Author.Needs.{needs}
 use Prim.Native.Nat.{_<_, _^_}
 use Rattle.layout.specs.Entry.{wordList, wordWidths}
-use Rattle.layout.specs.Fields.{Fit}
+use Rattle.bits.specs.Fields.{Fit}
 use Rattle.layout.proofs.TagLaws.{tagged}
 use Rattle.layout.proofs.tag.tag.Statement.{statement}
 use Rattle.layout.proofs.tag.tag.Tie as tie

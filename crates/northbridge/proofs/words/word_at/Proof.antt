@@ -2,7 +2,7 @@
 -- Assumes nothing.
 use native.Mathlib.Nat.{add-sub-cancel-left}
 use borrow.Author.Needs.{needs}
-use Rattle.layout.specs.SipHash.{word}
+use Rattle.bits.specs.SipHash.{word}
 use Rattle.northbridge.proofs.words.word_at.Statement.{statement}
 use Rattle.northbridge.proofs.words.word_at.Tie as tie
 

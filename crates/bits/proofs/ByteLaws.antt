@@ -1,0 +1,55 @@
+-- The bytes of numbers: round trips, and a list by its elements.
+-- Assumes nothing.
+use mathlib.Core.Path.{_≡_, refl, sym, _∙_, ap, ap₂}
+use mathlib.Core.List.{List, [], _∷_, reverse-reverse}
+use Prim.Native.Nat.{ℕ, zero, suc, _^_, _<_}
+use native.Mathlib.Nat.{mod-eq-of-lt, zero-div, zero-mod}
+use lib.ListN.{length, getD, take, drop, replicate, length-replicate}
+use lib.Seq.{drop-drop}
+use borrow.Author.Needs.{needs}
+use borrow.Rule.Slice.PartMut.{putMid}
+use Rattle.bits.specs.Bytes.{bytes, lowBytes, lowNumber, number}
+use Rattle.bits.specs.Fields.{bits, pack, Fit}
+use Rattle.bits.proofs.FieldLaws.{unpack-pack, pack-unpack, length-unpack, unpack-cut, pack-groups, cut}
+
+-- the values of f below n
+abbrev pub tabulate : ℕ → (ℕ → ℕ) → List ℕ
+tabulate zero f = []
+tabulate (suc n) f = f zero ∷ tabulate n (λ i. f (suc i))
+
+-- a list of n elements is the list of its elements
+pub by-elements : (xs : List ℕ) (n : ℕ) → length xs ≡ n → xs ≡ tabulate n (λ i. getD xs i 0)
+by-elements xs n h = all xs ∙ ap (λ k. tabulate k (λ i. getD xs i 0)) h
+  where
+    all : (xs : List ℕ) → xs ≡ tabulate (length xs) (λ i. getD xs i 0)
+    all [] = refl
+    all (x ∷ xs) = ap (λ l. x ∷ l) (all xs)
+
+-- the bytes of a number make the number again, and bytes are the bytes of their number
+pub number-bytes : (k n : ℕ) → n < 2 ^ bits (replicate k 8) → number k (bytes k n) ≡ n
+unfolding bytes number
+number-bytes k n h = pack-unpack (replicate k 8) n ∙ mod-eq-of-lt h
+
+pub bytes-number : (k : ℕ) (s : List ℕ) → Fit (replicate k 8) s → bytes k (number k s) ≡ s
+unfolding bytes number
+bytes-number k s h = unpack-pack (replicate k 8) s h
+
+-- the same, the low byte first
+pub low-round : (k n : ℕ) → n < 2 ^ bits (replicate k 8) → lowNumber k (lowBytes k n) ≡ n
+unfolding lowBytes lowNumber
+low-round k n h = rw reverse-reverse (number-bytes k n h)
+
+-- the bytes of a word with its bytes in the other order
+pub bytes-swapped : (w : ℕ) → bytes 8 (lowNumber 8 (bytes 8 w)) ≡ lowBytes 8 w
+unfolding bytes lowBytes lowNumber
+bytes-swapped w = bytes-number 8 (lowBytes 8 w) (search needs)
+
+pub length-bytes : (k n : ℕ) → length (bytes k n) ≡ k
+unfolding bytes
+length-bytes k n = length-unpack (replicate k 8) n ∙ length-replicate k 8
+
+-- the bytes of zero are zeros
+pub bytes-zero : (k : ℕ) → bytes k 0 ≡ replicate k 0
+unfolding bytes
+bytes-zero zero = refl
+bytes-zero (suc k) = ap₂ _∷_ (rw (zero-div, zero-mod)) (bytes-zero k)

@@ -1,0 +1,3 @@
+pub mod ByteLaws
+pub mod FieldLaws
+pub mod SipLaws

@@ -1,0 +1,68 @@
+-- A message for SipHash is its whole words, and then one word of what is left, null bytes and the length.
+-- Assumes nothing.
+use mathlib.Core.Path.{_≡_, refl, ap, ap₂, _∙_}
+use mathlib.Core.List.{List, [], _∷_, _++_}
+use Prim.Native.Nat.{ℕ, zero, suc, _+_, _-_, _*_, _/_, _%_, _≤_}
+use native.Mathlib.Nat.{add-sub-cancel-left, sub-zero, suc-sub-suc}
+use native.Mathlib.Numerals.{add-one}
+use native.Mathlib.Omega.{arith}
+use lib.ListN.{length, getD, take, drop, replicate, length-append, length-drop, length-replicate}
+use lib.Seq.{take-all, take-append-le, drop-append-le}
+use Rattle.bits.specs.Bytes.{lowNumber, number}
+use Rattle.bits.specs.SipHash.{absorb, add64, compress, finish, padded, rotl, siphash, sipRound, start, word}
+use Rattle.bits.specs.declared.siphash.Lanes.{Lanes}
+use Rattle.bits.proofs.ByteLaws.{tabulate}
+
+-- zeros after a list, up to n elements, are what the list reads past its end
+filled : (n : ℕ) (s t : List ℕ) → length s ≤ n → s ++ (replicate (n - length s) 0 ++ t) ≡ tabulate n (λ i. getD s i 0) ++ t
+filled zero [] t h = refl
+filled zero (x ∷ s) t h = absurd (omega arith)
+filled (suc n) [] t h = rw sub-zero (ap (λ l. 0 ∷ l) (rw sub-zero at (filled n [] t (omega arith))))
+filled (suc n) (x ∷ s) t h = rw suc-sub-suc (ap (λ l. x ∷ l) (filled n s t (omega arith)))
+
+-- words that stand before t do not see it
+absorb-append : (n : ℕ) (s t : List ℕ) (v : Lanes) → 8 * n ≤ length s → absorb n (s ++ t) v ≡ absorb n s v
+unfolding absorb word
+absorb-append zero s t v h = refl
+absorb-append (suc n) s t v h =
+    rw (
+      absorb-append n s t v (omega arith),
+      drop-append-le (8 * n) s t (omega arith),
+      take-append-le 8 (drop (8 * n) s) t (simp length-drop (omega arith)),
+    )
+
+-- the whole words of a message go in, then the last word of the padded message
+pub hashed : (k0 k1 : ℕ) (m : List ℕ)
+    → siphash k0 k1 m ≡ finish (compress (absorb (length m / 8) m (start k0 k1)) (word (padded m) (length m / 8)))
+unfolding siphash padded absorb
+hashed k0 k1 m = rw (add-one, absorb-append (length m / 8) m _ (start k0 k1) (omega arith))
+
+-- which has what is left of the message, in the code's words, and reads 0 past its end
+abbrev pub rest : List ℕ → List ℕ
+rest m = take (length m - 8 * (length m / 8)) (drop (8 * (length m / 8)) m)
+
+pub last-word : (m : List ℕ)
+    → word (padded m) (length m / 8) ≡ lowNumber 8 (tabulate 7 (λ i. getD (rest m) i 0) ++ (length m % 256 ∷ []))
+unfolding padded word
+last-word m =
+    let left = drop (8 * (length m / 8)) m in
+    let size : length left ≡ length m % 8 = simp length-drop (omega arith) in
+    let tail = replicate (7 - length left) 0 ++ (length m % 256 ∷ []) in
+    rw (
+      ← size,
+      drop-append-le (8 * (length m / 8)) m tail (omega arith),
+      take-all 8 (left ++ tail) (simp (length-append, length-replicate) (omega arith)),
+      take-all (length m - 8 * (length m / 8)) left (omega arith),
+      filled 7 left (length m % 256 ∷ []) (omega arith),
+    )
+
+-- word i goes in after those before it
+pub absorb-more : (i m : ℕ) (s : List ℕ) (v : Lanes) {w x : Lanes} → w ≡ absorb i s v
+    → m ≡ lowNumber 8 (take (8 * i + 8 - 8 * i) (drop (8 * i) s)) → x ≡ compress w m → x ≡ absorb (i + 1) s v
+unfolding absorb word
+absorb-more i m s v p q r = rw add-one (r ∙ ap₂ compress p (rw add-sub-cancel-left at q))
+
+-- the vector of the authors' paper: the message 00 01 .. 0e under the key 00 01 .. 0f
+vector : siphash 0x0706050403020100 0x0f0e0d0c0b0a0908 (tabulate 15 (λ i. i)) ≡ 0xa129ca6149be45e5
+unfolding siphash padded absorb word number lowNumber finish compress sipRound rotl add64
+vector = refl
