@@ -1,15 +1,1 @@
-pub mod AccessLaws
-pub mod AllotLaws
-pub mod ChildLaws
-pub mod CloneLaws
-pub mod CreateLaws
-pub mod DeriveLaws
-pub mod DropLaws
-pub mod ExecuteOnlyLaws
-pub mod LockLaws
-pub mod MergeLaws
-pub mod PartLaws
-pub mod ResetLaws
-pub mod RevokeLaws
-pub mod RulingLaws
 pub mod TurnLaws

@@ -12,11 +12,11 @@ use Rattle.machine.specs.Requests.{access, clone, create, derive, executeOnly, 
 use Rattle.machine.specs.Steps.{answer, bufferAfter, decide, memoryAfter, pass, settle, step, stop, Verdict, verdict}
 use Rattle.machine.specs.Stops.{checks}
 use Rattle.machine.proofs.Choices.{by-cond}
-use Rattle.operations.specs.Rulings.{decided, effectOn, handed, ruled, stateAs}
-use Rattle.operations.specs.Ways.{Loads}
-use Rattle.operations.specs.Turns.{after, answered, before, callAs}
-use Rattle.operations.specs.declared.answer.Served.{Served}
-use Rattle.operations.specs.declared.answer.State.{State}
+use Rattle.rulings.specs.Rulings.{decided, effectOn, ruled}
+use Rattle.accesses.specs.Ways.{Loads}
+use Rattle.operations.specs.Turns.{after, answered, before, callAs, returned, stateAs}
+use Rattle.operations.specs.declared.state.Served.{Served}
+use Rattle.operations.specs.declared.state.State.{State}
 
 -- ---- effects
 
@@ -102,7 +102,7 @@ pub turned-as : (s : State) (t m b : List ℕ) (r : Served) (t′ m′ b′ : Li
 turned-as s t m b r t′ m′ b′ q p e h = subst (Turned s t m b r t′ m′ b′) (sym e) h
 
 turn : (s : State) (t m b : List ℕ) (q : Request) (r : Served) (t′ m′ b′ : List ℕ)
-    → handed r t′ ≡ decided (length m) (stateAs s) t q b
+    → returned r t′ ≡ decided (length m) (stateAs s) t q b
     → m′ ≡ memoryAfter (effectOn (length m) (stateAs s) t q b) m
     → b′ ≡ bufferAfter (effectOn (length m) (stateAs s) t q b) m b
     → Turned s t m b r t′ m′ b′ q
@@ -111,32 +111,32 @@ turn s t m b q r t′ m′ b′ h g f =
     (λ i. record { state = h i .state; table = h i .table; memory = g i }, λ i. record { reply = h i .reply; buffer = f i })
 
 module _ (s : State) (t m b : List ℕ) (r : Served) (t′ : List ℕ) where
-  pub quiet-turn : (q : Request) → Quiet q → Unread q → handed r t′ ≡ decided (length m) (stateAs s) t q [] → Turned s t m b r t′ m b q
+  pub quiet-turn : (q : Request) → Quiet q → Unread q → returned r t′ ≡ decided (length m) (stateAs s) t q [] → Turned s t m b r t′ m b q
   unfolding decided
   quiet-turn q z u h =
       let none : effectOn (length m) (stateAs s) t q b ≡ nothing = quiet-effect (length m) (stateAs s) t q b z in
       turn s t m b q r t′ m b (h ∙ ap ruled (sym (unread (length m) (stateAs s) t q b u))) (rw none refl) (rw none refl)
 
   -- a read or a fetch leaves memory
-  pub load-turn : (w : Way) (k u : ℕ) (b′ : List ℕ) → Loads w → handed r t′ ≡ decided (length m) (stateAs s) t (access w k u) b
+  pub load-turn : (w : Way) (k u : ℕ) (b′ : List ℕ) → Loads w → returned r t′ ≡ decided (length m) (stateAs s) t (access w k u) b
       → b′ ≡ bufferAfter (effectOn (length m) (stateAs s) t (access w k u) b) m b
       → Turned s t m b r t′ m b′ (access w k u)
   load-turn w k u b′ l h f =
       turn s t m b (access w k u) r t′ m b′ h (by-effect (λ (f : Effect). m ≡ memoryAfter f m) (length m) (stateAs s) t (access w k u) b refl (rw l refl)) f
 
   -- a write and a revoke leave the buffer
-  store-turn : (q : Request) (m′ : List ℕ) → b ≡ bufferAfter (grant (length m) (stateAs s) t q b .effect) m b → handed r t′ ≡ decided (length m) (stateAs s) t q b
+  store-turn : (q : Request) (m′ : List ℕ) → b ≡ bufferAfter (grant (length m) (stateAs s) t q b .effect) m b → returned r t′ ≡ decided (length m) (stateAs s) t q b
       → m′ ≡ memoryAfter (effectOn (length m) (stateAs s) t q b) m
       → Turned s t m b r t′ m′ b q
   store-turn q m′ k h g =
       turn s t m b q r t′ m′ b h g (by-effect (λ (f : Effect). b ≡ bufferAfter f m b) (length m) (stateAs s) t q b refl k)
 
-  pub write-turn : (k u : ℕ) (m′ : List ℕ) → handed r t′ ≡ decided (length m) (stateAs s) t (access writing k u) b
+  pub write-turn : (k u : ℕ) (m′ : List ℕ) → returned r t′ ≡ decided (length m) (stateAs s) t (access writing k u) b
       → m′ ≡ memoryAfter (effectOn (length m) (stateAs s) t (access writing k u) b) m
       → Turned s t m b r t′ m′ b (access writing k u)
   write-turn k u m′ h g = store-turn (access writing k u) m′ refl h g
 
-  pub revoke-turn : (k c : ℕ) (m′ : List ℕ) → handed r t′ ≡ decided (length m) (stateAs s) t (revoke k c) []
+  pub revoke-turn : (k c : ℕ) (m′ : List ℕ) → returned r t′ ≡ decided (length m) (stateAs s) t (revoke k c) []
       → m′ ≡ memoryAfter (effectOn (length m) (stateAs s) t (revoke k c) []) m
       → Turned s t m b r t′ m′ b (revoke k c)
   unfolding decided effectOn

@@ -1,9 +1,1 @@
-pub mod Allotments
-pub mod Children
-pub mod Creations
-pub mod Locks
-pub mod Neighbours
-pub mod Renewals
-pub mod Rulings
 pub mod Turns
-pub mod Ways

@@ -3,12 +3,20 @@
 use mathlib.Core.List.{List}
 use Rattle.machine.specs.Requests as request
 use Rattle.machine.specs.Steps.{Answer, Machine}
-use Rattle.operations.specs.Rulings.{replyAs, stateAs}
-use Rattle.operations.specs.declared.answer.Served.{Served}
-use Rattle.operations.specs.declared.answer.State.{State}
+use Rattle.machine.specs.Parts as parts
+use Rattle.rulings.specs.Rulings.{issuerAs, replyAs, Ruling}
+use Rattle.operations.specs.declared.state.Served.{Served}
+use Rattle.operations.specs.declared.state.State.{State}
 use Rattle.operations.specs.declared.serve.Request.{Request}
 use Rattle.operations.specs.declared.serve.Request.the-variants.{Clone, Create, Derive, Drop, ExecuteOnly, Fetch, Lock, Merge, Read, Reset, Revoke, Unlock, Write}
 use Prim.Native.Nat.{ℕ}
+
+-- the state, and what an operation hands back with the table that it leaves, in the machine's terms
+abbrev pub stateAs : State → parts.State
+stateAs s = issuerAs (s .issuer)
+
+abbrev pub returned : Served → List ℕ → Ruling
+returned r t = record { state = stateAs (r .state); table = t; reply = replyAs (r .answer) }
 
 -- the request in the machine's terms, and the call that brings a buffer with it
 abbrev pub requestAs : Request → request.Request

@@ -1,159 +1,17 @@
-// Access: read, write and fetch, through a token, at its offset.
-use crate::answer::Checked;
-use crate::answer::Served;
-use crate::answer::State;
-use crate::answer::plain;
-use crate::answer::refused;
-use checks::answer::Refusal;
-use checks::reach::Reached;
-use checks::reach::reach;
-use checks::settings::settings;
-use layout::permissions::within;
-use layout::token::read;
-use table::bytes::copy;
-use table::entries::entry_at;
+// Accesses: read, write and fetch, through a token, at its offset.
+use crate::state::Served;
+use crate::state::State;
+use accesses::access::Way;
+use accesses::access::fill;
+use accesses::access::write;
 ghost use mathlib.Core.Path.{_≡_};
-ghost use Prim.Native.Nat.{_+_, _*_, _^_, _≤_, _<_};
-ghost use lib.Dec.{leb};
-ghost use lib.ListN.{drop, length, take};
-ghost use lib.Seq.{sets};
-ghost use Rattle.machine.specs.Operations.{numberOf};
+ghost use lib.ListN.{length};
 ghost use Rattle.machine.specs.Requests as request;
 ghost use Rattle.machine.specs.Steps.{bufferAfter, memoryAfter};
-ghost use Rattle.operations.specs.Rulings.{checkedAs, decided, effectOn, handed, stateAs, verdictOn};
-ghost use Rattle.operations.specs.Ways.{Loads, startOf, transferVerdict, wayAs};
-
-pub enum Way {
-    Read,
-    Write,
-    Fetch,
-}
-
-// The permission that an access needs.
-fn right_of(way: Way) -> u8
-    ensures { λ r. ⌜ r ≡ request.rightOf (wayAs way) ⌝ }
-{
-    match way {
-        Way::Read => 4,
-        Way::Write => 2,
-        Way::Fetch => 1,
-    }
-}
-
-// So many bytes at the offset lie wholly inside a segment of the length.
-fn inside(offset: u64, bytes: u64, length: u64) -> bool
-    ensures { λ r. ⌜ r ≡ leb (offset + bytes) length ⌝ }
-{
-    if length < bytes {
-        return false;
-    }
-    if offset <= length - bytes {
-        true
-    } else {
-        false
-    }
-}
+ghost use Rattle.rulings.specs.Rulings.{decided, effectOn};
+ghost use Rattle.operations.specs.Turns.{returned, stateAs};
 
 impl State {
-    // Places 7 and 8: the right, and the bounds.
-    fn check_transfer(self, table: &[u8], way: Way, token: u64, bytes: u64) -> Checked
-        requires { ⌜ 32 * numberOf token + 32 ≤ length (now table) ⌝ }
-        ensures { λ r. ⌜ checkedAs r ≡ transferVerdict (now (table .entry)) (wayAs way) token bytes ⌝ }
-    {
-        let named = read(token);
-        let e = entry_at(table, named.number as usize);
-        if !within(right_of(way), e.permissions) {
-            return Checked::Stop(Refusal::Right);
-        }
-        if inside(named.offset, bytes, e.length as u64) {
-            Checked::Pass
-        } else {
-            Checked::Stop(Refusal::Bounds)
-        }
-    }
-
-    fn check_access(
-        self,
-        table: &[u8],
-        memory: u64,
-        way: Way,
-        token: u64,
-        task: u64,
-        buffer: &[u8],
-    ) -> Checked
-        ensures { λ r. ⌜ checkedAs r ≡ verdictOn memory (stateAs self) (now (table .entry)) (request.access (wayAs way) token task) (now (buffer .entry)) ⌝ }
-    {
-        let bytes = buffer.len();
-        if settings(memory, table, self.last, self.next)
-            & (task < 1 << 55)
-            & (1 <= bytes)
-            & (bytes <= 4096)
-        {
-            let r = reach(table, memory, token, task);
-            match r {
-                Reached::Stop(why) => Checked::Stop(why),
-                Reached::Owner(_) => self.check_transfer(table, way, token, bytes as u64),
-            }
-        } else {
-            Checked::Stop(Refusal::Request)
-        }
-    }
-}
-
-// Where in memory the access begins: at the segment's base and the token's offset.
-fn start_of(table: &[u8], token: u64) -> u64
-    requires { ⌜ (32 * numberOf token + 32 ≤ length (now table)) × (startOf (now table) token < 2 ^ 64) ⌝ }
-    ensures { λ r. ⌜ r ≡ startOf (now (table .entry)) token ⌝ }
-{
-    let named = read(token);
-    let e = entry_at(table, named.number as usize);
-    (e.base as u64) + named.offset
-}
-
-// The bytes of memory from the start on fill the buffer.
-fn load(memory: &[u8], start: usize, buffer: &mut [u8])
-    requires { ⌜ start + length (now buffer) ≤ length (now memory) ⌝ }
-    ensures { λ _. ⌜ now (buffer .exit) ≡ take (length (now (buffer .entry))) (drop start (now (memory .entry))) ⌝ }
-{
-    let end = start + buffer.len();
-    copy(buffer, &memory[start..end]);
-}
-
-// The buffer is stored in memory from the start on.
-fn store(memory: &mut [u8], start: usize, buffer: &[u8])
-    requires { ⌜ start + length (now buffer) ≤ length (now memory) ⌝ }
-    ensures { λ _. ⌜ now (memory .exit) ≡ sets (now (memory .entry)) start (now (buffer .entry)) ⌝ }
-{
-    let end = start + buffer.len();
-    copy(&mut memory[start..end], buffer);
-}
-
-impl State {
-    // Read or fetch.
-    fn fill(
-        mut self,
-        way: Way,
-        table: &[u8],
-        memory: &[u8],
-        buffer: &mut [u8],
-        token: u64,
-        task: u64,
-    ) -> Served
-        requires { ⌜ Loads (wayAs way) ⌝ }
-        ensures { λ r. ⌜ handed r (now (table .entry)) ≡ decided (length (now (memory .entry))) (stateAs self) (now (table .entry)) (request.access (wayAs way) token task) (now (buffer .entry)) ⌝ }
-        ensures { λ _. ⌜ now (buffer .exit) ≡ bufferAfter (effectOn (length (now (memory .entry))) (stateAs self) (now (table .entry)) (request.access (wayAs way) token task) (now (buffer .entry))) (now (memory .entry)) (now (buffer .entry)) ⌝ }
-    {
-        let r = self.check_access(table, memory.len() as u64, way, token, task, buffer);
-        match r {
-            Checked::Stop(why) => refused(self, why),
-            Checked::Pass => {
-                let start = start_of(table, token) as usize;
-                load(memory, start, buffer);
-                plain(self, 0)
-            }
-        }
-    }
-
     // The segment's bytes at the token's offset go to the buffer: needs R.
     pub fn read(
         mut self,
@@ -163,10 +21,17 @@ impl State {
         token: u64,
         task: u64,
     ) -> Served
-        ensures { λ r. ⌜ handed r (now (table .entry)) ≡ decided (length (now (memory .entry))) (stateAs self) (now (table .entry)) (request.access request.reading token task) (now (buffer .entry)) ⌝ }
+        ensures { λ r. ⌜ returned r (now (table .entry)) ≡ decided (length (now (memory .entry))) (stateAs self) (now (table .entry)) (request.access request.reading token task) (now (buffer .entry)) ⌝ }
         ensures { λ _. ⌜ now (buffer .exit) ≡ bufferAfter (effectOn (length (now (memory .entry))) (stateAs self) (now (table .entry)) (request.access request.reading token task) (now (buffer .entry))) (now (memory .entry)) (now (buffer .entry)) ⌝ }
     {
-        self.fill(Way::Read, table, memory, buffer, token, task)
+        let issuer = self.issuer;
+        let o = fill(issuer, Way::Read, table, memory, buffer, token, task);
+        let issuer = o.issuer;
+        let answer = o.answer;
+        Served {
+            state: State { issuer },
+            answer,
+        }
     }
 
     // The same with X.
@@ -178,10 +43,17 @@ impl State {
         token: u64,
         task: u64,
     ) -> Served
-        ensures { λ r. ⌜ handed r (now (table .entry)) ≡ decided (length (now (memory .entry))) (stateAs self) (now (table .entry)) (request.access request.fetching token task) (now (buffer .entry)) ⌝ }
+        ensures { λ r. ⌜ returned r (now (table .entry)) ≡ decided (length (now (memory .entry))) (stateAs self) (now (table .entry)) (request.access request.fetching token task) (now (buffer .entry)) ⌝ }
         ensures { λ _. ⌜ now (buffer .exit) ≡ bufferAfter (effectOn (length (now (memory .entry))) (stateAs self) (now (table .entry)) (request.access request.fetching token task) (now (buffer .entry))) (now (memory .entry)) (now (buffer .entry)) ⌝ }
     {
-        self.fill(Way::Fetch, table, memory, buffer, token, task)
+        let issuer = self.issuer;
+        let o = fill(issuer, Way::Fetch, table, memory, buffer, token, task);
+        let issuer = o.issuer;
+        let answer = o.answer;
+        Served {
+            state: State { issuer },
+            answer,
+        }
     }
 
     // The buffer goes to the segment at the token's offset: needs W.
@@ -193,17 +65,16 @@ impl State {
         token: u64,
         task: u64,
     ) -> Served
-        ensures { λ r. ⌜ handed r (now (table .entry)) ≡ decided (length (now (memory .entry))) (stateAs self) (now (table .entry)) (request.access request.writing token task) (now (buffer .entry)) ⌝ }
+        ensures { λ r. ⌜ returned r (now (table .entry)) ≡ decided (length (now (memory .entry))) (stateAs self) (now (table .entry)) (request.access request.writing token task) (now (buffer .entry)) ⌝ }
         ensures { λ _. ⌜ now (memory .exit) ≡ memoryAfter (effectOn (length (now (memory .entry))) (stateAs self) (now (table .entry)) (request.access request.writing token task) (now (buffer .entry))) (now (memory .entry)) ⌝ }
     {
-        let r = self.check_access(table, memory.len() as u64, Way::Write, token, task, buffer);
-        match r {
-            Checked::Stop(why) => refused(self, why),
-            Checked::Pass => {
-                let start = start_of(table, token) as usize;
-                store(memory, start, buffer);
-                plain(self, 0)
-            }
+        let issuer = self.issuer;
+        let o = write(issuer, table, memory, buffer, token, task);
+        let issuer = o.issuer;
+        let answer = o.answer;
+        Served {
+            state: State { issuer },
+            answer,
         }
     }
 }

@@ -1,6 +1,6 @@
 // Any request, served: one step of the machine.
-use crate::answer::Served;
-use crate::answer::State;
+use crate::state::Served;
+use crate::state::State;
 ghost use mathlib.Core.Path.{_≡_};
 ghost use Rattle.machine.specs.Steps.{answer, step};
 ghost use Rattle.operations.specs.Turns.{after, answered, before, callAs, requestAs};

@@ -1,0 +1,2 @@
+// Accesses: read, write and fetch.
+pub mod access;

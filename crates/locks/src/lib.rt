@@ -1,0 +1,2 @@
+// Lock and unlock.
+pub mod lock;

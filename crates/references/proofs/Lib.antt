@@ -1,0 +1,5 @@
+pub mod ChildLaws
+pub mod CloneLaws
+pub mod DeriveLaws
+pub mod DropLaws
+pub mod ExecuteOnlyLaws

@@ -1,0 +1,36 @@
+-- `references::execute_only::execute_only` meets its contract: it is decided by its verdict.
+-- Assumes nothing.
+use mathlib.Core.Path.{_≡_}
+use mathlib.Core.List.{[]}
+use lib.ListN.{length}
+use borrow.Author.Needs.{needs}
+use Rattle.machine.specs.Requests.{executeOnly}
+use Rattle.rulings.specs.Allotments.{Allots}
+use Rattle.rulings.specs.Rulings.{issuerAs, verdictOn}
+use Rattle.rulings.specs.declared.allot.Allotted.{Allotted}
+use Rattle.rulings.proofs.RulingLaws.{decided-pass, decided-stop}
+use Rattle.references.proofs.execute_only.execute_only.Statement.{statement}
+use Rattle.references.proofs.execute_only.execute_only.Tie as tie
+
+-- what the checks come to
+checked : (c : tie.After-check-execute-only) (r : Allotted) → c .check-execute-only .result ≡ r
+    → let a = c .before .before .before .before .args in
+    Allots (issuerAs (a .s)) (a .table .now) r (verdictOn (length (a .memory .now)) (issuerAs (a .s)) (a .table .now) (executeOnly (a .token) (a .encoding)) [])
+checked c r q = rw q at (c .check-execute-only .ensures)
+
+pub execute-only-spec : {M : Type 1} → statement M
+execute-only-spec =
+    tie.close
+    (tie.spec
+    (λ c κs. search needs)
+    (λ c. search needs)
+    (λ c κs. search needs)
+    (λ c. search needs)
+    (λ c κs. checked (c .before .before .before .before) _ (c .before .before .r2 .given .1))
+    (λ c. search needs)
+    (λ c. decided-stop _ _ _ _ _ _ _ (c .refused .ensures) (checked (c .before .before .before .before) _ (c .before .before .r .given .1)))
+    (λ c. search needs)
+    (λ c.
+    let g = c .before .before in
+    let r = g .before .before .before in
+    decided-pass _ _ _ _ _ _ (g .grant-execute-only .ensures) (checked (r .before .before) _ (r .r2 .given .1) .0)))

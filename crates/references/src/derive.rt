@@ -1,0 +1,151 @@
+// Derive makes a child over a part of the segment.
+use crate::child::allot_child;
+use crate::child::grant_child;
+use checks::answer::Refusal;
+use checks::reach::Reached;
+use checks::reach::reach_live;
+use checks::settings::settings;
+use layout::permissions::within;
+use layout::token::read;
+use rulings::allot::Allotted;
+use rulings::answer::Outcome;
+use rulings::answer::refused;
+use rulings::issuer::Issuer;
+use table::entries::entry_at;
+ghost use mathlib.Core.Path.{_≡_};
+ghost use mathlib.Core.List.{[]};
+ghost use Prim.Native.Nat.{_+_, _*_, _≤_};
+ghost use lib.Dec.{ltb};
+ghost use lib.ListN as list;
+ghost use Rattle.machine.specs.Operations.{numberOf};
+ghost use Rattle.machine.specs.Requests as request;
+ghost use Rattle.rulings.specs.Allotments.{allotted, Allots, Settled};
+ghost use Rattle.references.specs.Children.{partVerdict};
+ghost use Rattle.rulings.specs.Rulings.{decided, granting, handed, issuerAs, verdictOn};
+
+// The true sum of a and b is below the end.
+fn sum_below(a: u64, b: u64, end: u64) -> bool
+    ensures { λ r. ⌜ r ≡ ltb (a + b) end ⌝ }
+{
+    if a < end { b < end - a } else { false }
+}
+
+// Places 7 to 11.
+fn check_part(
+    s: Issuer,
+    table: &[u8],
+    token: u64,
+    offset: u64,
+    length: u64,
+    permissions: u64,
+) -> Allotted
+    requires { ⌜ Settled (now table) (s .last) (s .next) × (permissions ≤ 7) ⌝ }
+    requires { ⌜ 32 * numberOf token + 32 ≤ list.length (now table) ⌝ }
+    ensures { λ r. ⌜ Allots (issuerAs s) (now (table .entry)) r (partVerdict (issuerAs s) (now (table .entry)) token offset length permissions) ⌝ }
+{
+    let named = read(token);
+    let e = entry_at(table, named.number as usize);
+    if !within(permissions as u8, e.permissions) {
+        return Allotted::Stop(Refusal::Right);
+    }
+    if !sum_below(length, offset, e.length as u64) {
+        return Allotted::Stop(Refusal::Bounds);
+    }
+    allot_child(s, table, e.count)
+}
+
+fn check_derive(
+    s: Issuer,
+    table: &[u8],
+    memory: u64,
+    token: u64,
+    offset: u64,
+    length: u64,
+    permissions: u64,
+    encoding: u64,
+) -> Allotted
+    ensures { λ r. ⌜ Allots (issuerAs s) (now (table .entry)) r (verdictOn memory (issuerAs s) (now (table .entry)) (request.derive token offset length permissions encoding) []) ⌝ }
+{
+    let named = read(token);
+    if settings(memory, table, s.last, s.next)
+        & (encoding <= 3)
+        & (permissions <= 7)
+        & (length != 0)
+        & (named.offset == 0)
+    {
+        let r = reach_live(table, memory, token);
+        match r {
+            Reached::Stop(why) => Allotted::Stop(why),
+            Reached::Owner(_) => check_part(s, table, token, offset, length, permissions),
+        }
+    } else {
+        Allotted::Stop(Refusal::Request)
+    }
+}
+
+fn grant_derive(
+    mut s: Issuer,
+    table: &mut [u8],
+    memory: u64,
+    new: usize,
+    token: u64,
+    offset: u64,
+    length: u64,
+    permissions: u64,
+    encoding: u64,
+) -> Outcome
+    requires { ⌜ allotted memory (issuerAs s) (now table) (request.derive token offset length permissions encoding) new ⌝ }
+    ensures { λ r. ⌜ handed r (now (table .exit)) ≡ granting memory (issuerAs s) (now (table .entry)) (request.derive token offset length permissions encoding) [] ⌝ }
+{
+    let named = read(token);
+    grant_child(
+        s,
+        table,
+        named.number as usize,
+        new,
+        offset as u32,
+        length as u32,
+        permissions as u8,
+        encoding,
+    )
+}
+
+// A token for a part of the segment, with no permission that its parent has not.
+pub fn derive(
+    mut s: Issuer,
+    table: &mut [u8],
+    memory: &[u8],
+    token: u64,
+    offset: u64,
+    length: u64,
+    permissions: u64,
+    encoding: u64,
+) -> Outcome
+    ensures { λ r. ⌜ handed r (now (table .exit)) ≡ decided (list.length (now (memory .entry))) (issuerAs s) (now (table .entry)) (request.derive token offset length permissions encoding) [] ⌝ }
+{
+    let bytes = memory.len() as u64;
+    let r = check_derive(
+        s,
+        table,
+        bytes,
+        token,
+        offset,
+        length,
+        permissions,
+        encoding,
+    );
+    match r {
+        Allotted::Stop(why) => refused(s, why),
+        Allotted::Number(new) => grant_derive(
+            s,
+            table,
+            bytes,
+            new,
+            token,
+            offset,
+            length,
+            permissions,
+            encoding,
+        ),
+    }
+}

@@ -1,0 +1,77 @@
+// Execute-only makes a child over the whole segment that can only be fetched from.
+use crate::child::allot_child;
+use crate::child::grant_child;
+use checks::answer::Refusal;
+use checks::reach::Reached;
+use checks::reach::reach_live;
+use checks::settings::settings;
+use layout::permissions::within;
+use layout::token::read;
+use rulings::allot::Allotted;
+use rulings::answer::Outcome;
+use rulings::answer::refused;
+use rulings::issuer::Issuer;
+use table::entries::entry_at;
+ghost use mathlib.Core.Path.{_≡_};
+ghost use mathlib.Core.List.{[]};
+ghost use lib.ListN.{length};
+ghost use Rattle.machine.specs.Requests as request;
+ghost use Rattle.rulings.specs.Allotments.{allotted, Allots};
+ghost use Rattle.rulings.specs.Rulings.{decided, granting, handed, issuerAs, verdictOn};
+
+fn check_execute_only(s: Issuer, table: &[u8], memory: u64, token: u64, encoding: u64) -> Allotted
+    ensures { λ r. ⌜ Allots (issuerAs s) (now (table .entry)) r (verdictOn memory (issuerAs s) (now (table .entry)) (request.executeOnly token encoding) []) ⌝ }
+{
+    let named = read(token);
+    if settings(memory, table, s.last, s.next) & (encoding <= 3) & (named.offset == 0) {
+        let r = reach_live(table, memory, token);
+        match r {
+            Reached::Stop(why) => Allotted::Stop(why),
+            Reached::Owner(_) => {
+                let e = entry_at(table, named.number as usize);
+                if within(1, e.permissions) {
+                    allot_child(s, table, e.count)
+                } else {
+                    Allotted::Stop(Refusal::Right)
+                }
+            }
+        }
+    } else {
+        Allotted::Stop(Refusal::Request)
+    }
+}
+
+fn grant_execute_only(
+    mut s: Issuer,
+    table: &mut [u8],
+    memory: u64,
+    new: usize,
+    token: u64,
+    encoding: u64,
+) -> Outcome
+    requires { ⌜ allotted memory (issuerAs s) (now table) (request.executeOnly token encoding) new ⌝ }
+    ensures { λ r. ⌜ handed r (now (table .exit)) ≡ granting memory (issuerAs s) (now (table .entry)) (request.executeOnly token encoding) [] ⌝ }
+{
+    let named = read(token);
+    let n = named.number as usize;
+    let e = entry_at(table, n);
+    grant_child(s, table, n, new, 0, e.length, 1, encoding)
+}
+
+// A token for the segment with X alone.
+pub fn execute_only(
+    mut s: Issuer,
+    table: &mut [u8],
+    memory: &[u8],
+    token: u64,
+    encoding: u64,
+) -> Outcome
+    ensures { λ r. ⌜ handed r (now (table .exit)) ≡ decided (length (now (memory .entry))) (issuerAs s) (now (table .entry)) (request.executeOnly token encoding) [] ⌝ }
+{
+    let bytes = memory.len() as u64;
+    let r = check_execute_only(s, table, bytes, token, encoding);
+    match r {
+        Allotted::Stop(why) => refused(s, why),
+        Allotted::Number(new) => grant_execute_only(s, table, bytes, new, token, encoding),
+    }
+}

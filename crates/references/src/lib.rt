@@ -1,0 +1,6 @@
+// Operations on references to a segment: derive, execute-only, clone, drop.
+pub mod child;
+pub mod clone;
+pub mod derive;
+pub mod drop;
+pub mod execute_only;

@@ -1,0 +1,2 @@
+pub mod AllotLaws
+pub mod RulingLaws

@@ -1,0 +1,35 @@
+-- A new number, and nonces for what is issued.
+-- Assumes nothing.
+use mathlib.Core.Path.{_≡_}
+use mathlib.Core.List.{List, [], _∷_}
+use Prim.Native.Nat.{ℕ, _/_, _≤_, _<_}
+use lib.ListN.{length}
+use Rattle.checks.specs.Answers.{stopAs}
+use Rattle.machine.specs.Issuing.{newNumber}
+use Rattle.machine.specs.Parts as parts
+use Rattle.machine.specs.Requests.{Request}
+use Rattle.machine.specs.Steps.{pass, Verdict, verdict}
+use Rattle.machine.specs.Stops.{noncesLeft, numberLeft}
+use Rattle.rulings.specs.Rulings.{verdictOn}
+use Rattle.rulings.specs.declared.allot.Allotted.{Allotted}
+use Rattle.rulings.specs.declared.allot.Allotted.the-variants.{Number, Stop}
+
+-- what holds of the table and the state where the settings do
+pub record Settled (t : List ℕ) (last next : ℕ) : Type 0 where
+  pub least : 64 ≤ length t
+  pub most : length t ≤ 32768
+  pub inside : last < length t / 32
+  pub left : next ≤ parts.spent
+
+-- the checks came to the verdict v; one that passes has the new number
+abbrev pub Allots : parts.State → List ℕ → Allotted → Verdict → Type 0
+Allots s t (Stop why) v = v ≡ stopAs why
+Allots s t (Number n) v = (v ≡ pass) × (n ≡ newNumber s t)
+
+-- places 10 and 11, where so many nonces are wanted
+unfoldable pub allotVerdict : parts.State → List ℕ → (nonces : ℕ) → Verdict
+allotVerdict s t k = verdict (numberLeft s t ∷ noncesLeft s k ∷ [])
+
+-- the request passes, and n is the new number
+abbrev pub allotted : ℕ → parts.State → List ℕ → Request → ℕ → Type 0
+allotted m s t q n = Allots s t (Number n) (verdictOn m s t q [])

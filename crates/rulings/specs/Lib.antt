@@ -1,0 +1,2 @@
+pub mod Allotments
+pub mod Rulings

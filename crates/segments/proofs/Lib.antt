@@ -1,0 +1,4 @@
+pub mod CreateLaws
+pub mod MergeLaws
+pub mod ResetLaws
+pub mod RevokeLaws

@@ -1,0 +1,37 @@
+-- `segments::create::create` meets its contract: it is decided by its verdict.
+-- Assumes nothing.
+use mathlib.Core.Path.{_≡_}
+use mathlib.Core.List.{[]}
+use lib.ListN.{length}
+use borrow.Author.Needs.{needs}
+use Rattle.machine.specs.Requests.{create}
+use Rattle.rulings.specs.Allotments.{Allots}
+use Rattle.rulings.specs.Rulings.{issuerAs, verdictOn}
+use Rattle.rulings.specs.declared.allot.Allotted.{Allotted}
+use Rattle.rulings.proofs.RulingLaws.{decided-pass, decided-stop}
+use Rattle.segments.proofs.create.create.Statement.{statement}
+use Rattle.segments.proofs.create.create.Tie as tie
+
+-- what the checks come to
+checked : (c : tie.After-check-create) (r : Allotted) → c .check-create .result ≡ r
+    → let a = c .before .before .before .before .args in
+    Allots (issuerAs (a .s)) (a .table .now) r (verdictOn (length (a .memory .now)) (issuerAs (a .s)) (a .table .now) (create (a .token) (a .task) (a .length) (a .user) (a .permissions) (a .encoding)) [])
+checked c r q = rw q at (c .check-create .ensures)
+
+pub create-spec : {M : Type 1} → statement M
+create-spec =
+    tie.close
+    (tie.spec
+    (λ c κs. search needs)
+    (λ c. search needs)
+    (λ c κs. search needs)
+    (λ c. search needs)
+    (λ c κs. checked (c .before .before .before .before) _ (c .before .before .r2 .given .1))
+    (λ c. search needs)
+    (λ c. decided-stop _ _ _ _ _ _ _ (c .refused .ensures) (checked (c .before .before .before .before) _ (c .before .before .r .given .1)))
+    (λ c. search needs)
+    (λ c.
+    let g = c .before .before in
+    let r = g .before .before .before in
+    let a = r .before .before .before .before .before .before .args in
+    decided-pass _ _ _ (create (a .token) (a .task) (a .length) (a .user) (a .permissions) (a .encoding)) _ _ (g .grant-create .ensures) (checked (r .before .before) _ (r .r2 .given .1) .0)))

@@ -1,0 +1,17 @@
+-- `segments::revoke::renew` meets its contract: a law for each way out.
+-- Assumes nothing.
+use borrow.Author.Needs.{needs}
+use Rattle.segments.proofs.RevokeLaws.{renew-kind, renew-nonce, renew-pass, renew-spent}
+use Rattle.segments.proofs.revoke.renew.Statement.{statement}
+use Rattle.segments.proofs.revoke.renew.Tie as tie
+
+pub renew-spec : {M : Type 1} → statement M
+renew-spec =
+    tie.close
+    (tie.spec
+    (λ c κs. search needs)
+    (λ c.
+    let p = c .before in
+    (renew-pass _ _ _ _ (p .pass-over .ensures) (p .before .if1 .taken) (c .if2 .taken), renew-nonce _ _ _ _ (p .pass-over .ensures)))
+    (λ c. let p = c .before in renew-spent _ _ _ _ (p .pass-over .ensures) (p .before .if1 .taken) (c .if2 .left))
+    (λ c. renew-kind _ _ _ (c .if1 .left)))

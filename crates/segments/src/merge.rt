@@ -1,0 +1,152 @@
+// Merge joins two neighbours into one segment.
+use checks::answer::Refusal;
+use checks::reach::Reached;
+use checks::reach::reach;
+use checks::settings::settings;
+use layout::entry::Entry;
+use layout::entry::direct;
+use layout::entry::free;
+use layout::token::read;
+use rulings::answer::Checked;
+use rulings::answer::Outcome;
+use rulings::answer::giving;
+use rulings::answer::refused;
+use rulings::issue::issue;
+use rulings::issuer::Issuer;
+use table::entries::entry_at;
+use table::entries::put_entry;
+ghost use mathlib.Core.Path.{_≡_};
+ghost use mathlib.Core.List.{[]};
+ghost use Prim.Native.Nat.{_+_, _<_, _^_};
+ghost use lib.ListN.{length};
+ghost use Rattle.machine.specs.Requests as request;
+ghost use Rattle.machine.specs.Steps.{pass};
+ghost use Rattle.segments.specs.Neighbours.{bothVerdict, joining, neighbourVerdict};
+ghost use Rattle.rulings.specs.Rulings.{checkedAs, decided, granting, handed, issuerAs, verdictOn};
+
+// Places 2 to 5 for one token, then for the other.
+fn reach_both(table: &[u8], memory: u64, first: u64, second: u64, task: u64) -> Checked
+    ensures { λ r. ⌜ checkedAs r ≡ bothVerdict memory (now (table .entry)) first second task ⌝ }
+{
+    let a = reach(table, memory, first, task);
+    match a {
+        Reached::Stop(why) => Checked::Stop(why),
+        Reached::Owner(_) => {
+            let b = reach(table, memory, second, task);
+            match b {
+                Reached::Stop(why) => Checked::Stop(why),
+                Reached::Owner(_) => Checked::Pass,
+            }
+        }
+    }
+}
+
+// Places 6 to 11: e starts where d ends, and one nonce is left.
+fn neighbours(d: Entry, e: Entry, next: u64) -> Checked
+    ensures { λ r. ⌜ checkedAs r ≡ neighbourVerdict d e next ⌝ }
+{
+    if !((d.kind == 1) & (e.kind == 1)) {
+        return Checked::Stop(Refusal::Kind);
+    }
+    let end = (d.base as u64) + (d.length as u64);
+    if (e.base as u64) != end {
+        return Checked::Stop(Refusal::Bounds);
+    }
+    if !(!d.locked & !e.locked & (d.count == 0) & (e.count == 0)) {
+        return Checked::Stop(Refusal::Standing);
+    }
+    if next < 4294967296 {
+        Checked::Pass
+    } else {
+        Checked::Stop(Refusal::Nonces)
+    }
+}
+
+// A direct entry over both, with the first's user and Lockable and the permissions both have.
+fn joined(d: Entry, e: Entry, nonce: u32) -> Entry
+    requires { ⌜ d .length + e .length < 2 ^ 32 ⌝ }
+    ensures { λ r. ⌜ r ≡ joining d e nonce ⌝ }
+{
+    let length = d.length + e.length;
+    let permissions = d.permissions & e.permissions;
+    direct(d.base, length, d.user, permissions, d.lockable, 0, nonce)
+}
+
+fn check_merge(
+    s: Issuer,
+    table: &[u8],
+    memory: u64,
+    first: u64,
+    second: u64,
+    task: u64,
+    encoding: u64,
+) -> Checked
+    ensures { λ r. ⌜ checkedAs r ≡ verdictOn memory (issuerAs s) (now (table .entry)) (request.merge first second task encoding) [] ⌝ }
+{
+    let a = read(first);
+    let b = read(second);
+    if settings(memory, table, s.last, s.next)
+        & (task < 1 << 55)
+        & (encoding <= 3)
+        & (a.offset == 0)
+        & (b.offset == 0)
+    {
+        let r = reach_both(table, memory, first, second, task);
+        match r {
+            Checked::Stop(why) => Checked::Stop(why),
+            Checked::Pass => {
+                let d = entry_at(table, a.number as usize);
+                let e = entry_at(table, b.number as usize);
+                neighbours(d, e, s.next)
+            }
+        }
+    } else {
+        Checked::Stop(Refusal::Request)
+    }
+}
+
+// The second is freed, and the first issued anew over both.
+fn grant_merge(
+    mut s: Issuer,
+    table: &mut [u8],
+    memory: u64,
+    first: u64,
+    second: u64,
+    task: u64,
+    encoding: u64,
+) -> Outcome
+    requires { ⌜ verdictOn memory (issuerAs s) (now table) (request.merge first second task encoding) [] ≡ pass ⌝ }
+    ensures { λ r. ⌜ handed r (now (table .exit)) ≡ granting memory (issuerAs s) (now (table .entry)) (request.merge first second task encoding) [] ⌝ }
+{
+    let a = read(first);
+    let b = read(second);
+    let n = a.number as usize;
+    let k = b.number as usize;
+    let d = entry_at(table, n);
+    let e = entry_at(table, k);
+    let whole = joined(d, e, s.next as u32);
+    put_entry(table, k, free());
+    let token = issue(s, table, n, whole, encoding);
+    s.next += 1;
+    giving(s, token, 0)
+}
+
+// Two neighbours in order become one segment under the first's number.
+pub fn merge(
+    mut s: Issuer,
+    table: &mut [u8],
+    memory: &[u8],
+    first: u64,
+    second: u64,
+    task: u64,
+    encoding: u64,
+) -> Outcome
+    ensures { λ r. ⌜ handed r (now (table .exit)) ≡ decided (length (now (memory .entry))) (issuerAs s) (now (table .entry)) (request.merge first second task encoding) [] ⌝ }
+{
+    let bytes = memory.len() as u64;
+    let r = check_merge(s, table, bytes, first, second, task, encoding);
+    match r {
+        Checked::Stop(why) => refused(s, why),
+        Checked::Pass => grant_merge(s, table, bytes, first, second, task, encoding),
+    }
+}
