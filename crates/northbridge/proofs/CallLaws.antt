@@ -11,10 +11,10 @@ use Rattle.machine.proofs.Choices.{by-cond}
 use Rattle.machine.specs.Parts as parts
 use Rattle.machine.specs.Requests.{Request}
 use Rattle.machine.specs.Steps.{answer, step}
-use Rattle.operations.specs.Rulings.{replyAs, stateAs}
-use Rattle.operations.specs.Turns.{after, answered, before, callAs}
-use Rattle.operations.specs.declared.answer.Served.{Served}
-use Rattle.operations.specs.declared.answer.State.{State}
+use Rattle.rulings.specs.Rulings.{replyAs}
+use Rattle.operations.specs.Turns.{after, answered, before, callAs, stateAs}
+use Rattle.operations.specs.declared.state.Served.{Served}
+use Rattle.operations.specs.declared.state.State.{State}
 use Rattle.northbridge.specs.Exported.{answerBytes, Asked, asked, carried, exported, known, served, sized, stateBytes, stateOf}
 use Rattle.northbridge.specs.Meanings.{left}
 

@@ -2,11 +2,12 @@
 use crate::words::put_word;
 use checks::answer::Place;
 use checks::answer::Refusal;
-use operations::answer::Answer;
+use rulings::answer::Answer;
+use rulings::answer::number_of;
 ghost use mathlib.Core.Path.{_≡_};
 ghost use lib.ListN.{length};
-ghost use Rattle.checks.specs.Answers.{placeAs, refusalNumber, refusalPlace};
-ghost use Rattle.operations.specs.Rulings.{replyAs};
+ghost use Rattle.checks.specs.Answers.{placeAs, refusalPlace};
+ghost use Rattle.rulings.specs.Rulings.{replyAs};
 ghost use Rattle.northbridge.specs.Exported.{answerBytes};
 ghost use Rattle.northbridge.specs.Meanings.{wordsAs};
 
@@ -24,24 +25,6 @@ fn place_number(place: Place) -> u64
     match place {
         Place::Named => 1,
         Place::Ancestor => 2,
-    }
-}
-
-fn refusal_number(why: Refusal) -> u64
-    ensures { λ r. ⌜ r ≡ refusalNumber why ⌝ }
-{
-    match why {
-        Refusal::Request => 1,
-        Refusal::Entry => 2,
-        Refusal::IllFormed(_) => 3,
-        Refusal::Dead(_) => 4,
-        Refusal::Lock => 5,
-        Refusal::Kind => 6,
-        Refusal::Right => 7,
-        Refusal::Bounds => 8,
-        Refusal::Standing => 9,
-        Refusal::Numbers => 10,
-        Refusal::Nonces => 11,
     }
 }
 
@@ -80,7 +63,7 @@ fn reply_of(answer: Answer) -> Reply
             dropped,
         },
         Answer::Refused(why) => Reply {
-            refusal: refusal_number(why),
+            refusal: number_of(why),
             place: refusal_place(why),
             first: 0,
             second: 0,

@@ -5,8 +5,9 @@ use crate::request::request_of;
 use crate::state::read_state;
 use crate::state::write_state;
 use checks::answer::Refusal;
-use operations::answer::Answer;
 use operations::serve::Request;
+use operations::state::State;
+use rulings::answer::Answer;
 ghost use mathlib.Core.Path.{_≡_};
 ghost use lib.ListN.{length};
 ghost use Rattle.operations.specs.Turns.{requestAs};
@@ -47,9 +48,12 @@ pub fn carry_out(
     requires { ⌜ (length (now state) ≡ 32) × (length (now answer) ≡ 40) ⌝ }
     ensures { λ r. ⌜ left r (now (state .exit)) (now (table .exit)) (now (memory .exit)) (now (buffer .exit)) (now (answer .exit)) ≡ carried (known (requestAs request)) (now (state .entry)) (now (table .entry)) (now (memory .entry)) (now (buffer .entry)) (now (answer .entry)) ⌝ }
 {
-    let served = read_state(state).serve(request, table, memory, buffer);
+    let issuer = read_state(state);
+    let s = State { issuer };
+    let served = s.serve(request, table, memory, buffer);
     let next = served.state;
-    write_state(state, next);
+    let issuer = next.issuer;
+    write_state(state, issuer);
     let told = served.answer;
     write_answer(answer, told)
 }

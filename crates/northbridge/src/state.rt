@@ -1,18 +1,18 @@
 // A state of 32 bytes: four words.
 use crate::words::put_word;
 use crate::words::word_at;
-use operations::answer::State;
+use rulings::issuer::Issuer;
 ghost use mathlib.Core.Path.{_≡_};
 ghost use lib.ListN.{length};
-ghost use Rattle.operations.specs.Rulings.{stateAs};
+ghost use Rattle.rulings.specs.Rulings.{issuerAs};
 ghost use Rattle.northbridge.specs.Exported.{stateBytes, stateOf};
 
 // The state that 32 bytes hold.
-pub fn read_state(part: &[u8]) -> State
+pub fn read_state(part: &[u8]) -> Issuer
     requires { ⌜ length (now part) ≡ 32 ⌝ }
-    ensures { λ r. ⌜ stateAs r ≡ stateOf (now (part .entry)) ⌝ }
+    ensures { λ r. ⌜ issuerAs r ≡ stateOf (now (part .entry)) ⌝ }
 {
-    State {
+    Issuer {
         key0: word_at(part, 0),
         key1: word_at(part, 1),
         last: word_at(part, 2),
@@ -21,9 +21,9 @@ pub fn read_state(part: &[u8]) -> State
 }
 
 // The state is stored as 32 bytes.
-pub fn write_state(part: &mut [u8], s: State)
+pub fn write_state(part: &mut [u8], s: Issuer)
     requires { ⌜ length (now part) ≡ 32 ⌝ }
-    ensures { λ _. ⌜ now (part .exit) ≡ stateBytes (stateAs s) ⌝ }
+    ensures { λ _. ⌜ now (part .exit) ≡ stateBytes (issuerAs s) ⌝ }
 {
     put_word(part, 0, s.key0);
     put_word(part, 1, s.key1);

@@ -1,10 +1,11 @@
 // Paper 01's session: 65,536 bytes, 4 entries, key 0, first nonce 1, task 0 unless named. Prints a
 // line for each case: case, space, refusal (0 granted).
 use libc::STDOUT_FILENO;
-use operations::answer::Answer;
-use operations::answer::Served;
-use operations::answer::State;
-use operations::answer::refusal_of;
+use operations::state::Served;
+use operations::state::State;
+use rulings::answer::Answer;
+use rulings::answer::refusal_of;
+use rulings::issuer::Issuer;
 
 // Prints a case's line, and hands the state on.
 fn shown(case: u64, r: Served) -> State {
@@ -67,10 +68,12 @@ fn revoked(s: State, table: &mut [u8], memory: &mut [u8], token: u64) {
 
 fn session(table: &mut [u8], memory: &mut [u8]) {
     let blank = State {
-        key0: 0,
-        key1: 0,
-        last: 0,
-        next: 0,
+        issuer: Issuer {
+            key0: 0,
+            key1: 0,
+            last: 0,
+            next: 0,
+        },
     };
     let start = blank.reset(table, memory, 0, 0, 1);
     let s = reads(start.state, table, memory);

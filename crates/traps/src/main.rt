@@ -2,10 +2,11 @@
 // key 0 and first nonce 1. Prints a line for each request: what it tries, the refusal (0 granted),
 // and drop's number.
 use libc::STDOUT_FILENO;
-use operations::answer::Answer;
-use operations::answer::Served;
-use operations::answer::State;
-use operations::answer::refusal_of;
+use operations::state::Served;
+use operations::state::State;
+use rulings::answer::Answer;
+use rulings::answer::refusal_of;
+use rulings::issuer::Issuer;
 
 fn first_token(r: Served) -> u64 {
     let a = r.answer;
@@ -49,10 +50,12 @@ fn read_one(s: State, table: &[u8], memory: &[u8], token: u64, task: u64) -> Ser
 
 fn started(table: &mut [u8], memory: &[u8]) -> State {
     let blank = State {
-        key0: 0,
-        key1: 0,
-        last: 0,
-        next: 0,
+        issuer: Issuer {
+            key0: 0,
+            key1: 0,
+            last: 0,
+            next: 0,
+        },
     };
     let r = blank.reset(table, memory, 0, 0, 1);
     r.state

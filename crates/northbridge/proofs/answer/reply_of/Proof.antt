@@ -13,4 +13,4 @@ reply-of-spec =
     (λ c κs. search needs)
     (λ c κs. search needs)
     (λ c. rw (c .before .answer .given .1))
-    (λ c. rw (c .before .refusal-number .ensures, c .refusal-place .ensures, c .before .before .before .answer2 .given .1)))
+    (λ c. rw (c .before .number-of .ensures, c .refusal-place .ensures, c .before .before .before .answer2 .given .1)))
