@@ -1,7 +1,7 @@
 -- The bytes of numbers: round trips, and a list by its elements.
 -- Assumes nothing.
 use mathlib.Core.Path.{_≡_, refl, sym, _∙_, ap, ap₂}
-use mathlib.Core.List.{List, [], _∷_, reverse-reverse}
+use mathlib.Core.List.{List, [], _∷_, reverse, reverse-reverse}
 use Prim.Native.Nat.{ℕ, zero, suc, _^_, _<_}
 use native.Mathlib.Nat.{mod-eq-of-lt, zero-div, zero-mod}
 use lib.ListN.{length, getD, take, drop, replicate, length-replicate}
@@ -39,10 +39,21 @@ pub low-round : (k n : ℕ) → n < 2 ^ bits (replicate k 8) → lowNumber k (lo
 unfolding lowBytes lowNumber
 low-round k n h = rw reverse-reverse (number-bytes k n h)
 
--- the bytes of a word with its bytes in the other order
-pub bytes-swapped : (w : ℕ) → bytes 8 (lowNumber 8 (bytes 8 w)) ≡ lowBytes 8 w
-unfolding bytes lowBytes lowNumber
-bytes-swapped w = bytes-number 8 (lowBytes 8 w) (search needs)
+-- a word with its bytes in the other order: what the bytes say from the other end
+reverse-fit : (s : List ℕ) → length s ≡ 8 → ((i : ℕ) → getD s i 0 < 256) → Fit (replicate 8 8) (reverse s)
+reverse-fit s l h = rw (by-elements s 8 l) (h 7, (h 6, (h 5, (h 4, (h 3, (h 2, (h 1, (h 0, tt))))))))
+
+pub number-swapped : (s : List ℕ) → length s ≡ 8 → ((i : ℕ) → getD s i 0 < 256) → lowNumber 8 (bytes 8 (lowNumber 8 s)) ≡ number 8 s
+unfolding lowNumber
+number-swapped s l h = rw (bytes-number 8 (reverse s) (reverse-fit s l h), reverse-reverse)
+
+low-fit : (w : ℕ) → Fit (replicate 8 8) (lowBytes 8 w)
+unfolding bytes lowBytes
+low-fit w = search needs
+
+pub bytes-swapped : (w : ℕ) → lowBytes 8 (lowNumber 8 (bytes 8 w)) ≡ bytes 8 w
+unfolding lowBytes lowNumber
+bytes-swapped w = ap reverse (bytes-number 8 (lowBytes 8 w) (low-fit w)) ∙ reverse-reverse (bytes 8 w)
 
 pub length-bytes : (k n : ℕ) → length (bytes k n) ≡ k
 unfolding bytes

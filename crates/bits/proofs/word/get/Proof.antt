@@ -1,28 +1,17 @@
--- `bits::word::get` meets its contract: a list of eight bytes is the list of its elements.
+-- `bits::word::get` meets its contract: the swapped low word is the word.
 -- Assumes nothing.
+use mathlib.Core.Path.{_∙_, ap}
+use native.Mathlib.Omega.{arith}
 use borrow.Author.Needs.{needs}
-use Rattle.bits.specs.Bytes.{number}
-use Rattle.bits.proofs.ByteLaws.{by-elements}
+use Rattle.bits.specs.Bytes.{bytes, lowNumber}
+use Rattle.bits.proofs.ByteLaws.{number-swapped}
 use Rattle.bits.proofs.word.get.Statement.{statement}
 use Rattle.bits.proofs.word.get.Tie as tie
-
-returns : tie.Need-returns
-unfolding number
-returns c =
-    let s = c .before .before .before .before .before .before .before .before .before .before in
-    rw (by-elements (s .args .part .now) 8 (s .pre)) (c .joined .ensures)
 
 pub get-spec : {M : Type 1} → statement M
 get-spec =
     tie.close
     (tie.spec
-    (λ c. search needs)
-    (λ c. search needs)
-    (λ c. search needs)
-    (λ c. search needs)
-    (λ c. search needs)
-    (λ c. search needs)
-    (λ c. search needs)
-    (λ c. search needs)
     (λ c κs. search needs)
-    returns)
+    (λ c κs. search needs)
+    (λ c. c .swapped .ensures ∙ ap (λ w. lowNumber 8 (bytes 8 w)) (c .before .get-low .ensures) ∙ number-swapped _ (c .before .before .before .pre) (λ i. omega (arith, c .before .before .shared-slice-known .given i))))

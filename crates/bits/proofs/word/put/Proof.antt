@@ -1,37 +1,17 @@
--- `bits::word::put` meets its contract: eight stores make the list of eight bytes.
+-- `bits::word::put` meets its contract: the low bytes of the swapped word are the word's.
 -- Assumes nothing.
-use native.Mathlib.Nat.{div-one}
-use native.Mathlib.Omega.{arith}
-use lib.ListN.{length-set}
+use mathlib.Core.Path.{_∙_, ap}
 use borrow.Author.Needs.{needs}
-use Rattle.bits.specs.Bytes.{bytes}
-use Rattle.bits.proofs.ByteLaws.{by-elements}
+use Rattle.bits.specs.Bytes.{lowBytes}
+use Rattle.bits.proofs.ByteLaws.{bytes-swapped}
 use Rattle.bits.proofs.word.put.Statement.{statement}
 use Rattle.bits.proofs.word.put.Tie as tie
-
-returns : tie.Need-returns
-unfolding bytes
-returns c = rw (by-elements (c .args .part .now) 8 (c .pre), div-one)
 
 pub put-spec : {M : Type 1} → statement M
 put-spec =
     tie.close
     (tie.spec
+    (λ c κs. search needs)
+    (λ c κs. search needs)
     (λ c. search needs)
-    (λ c. search needs)
-    (λ c. search needs)
-    (λ c. search needs)
-    (λ c. search needs)
-    (λ c. search needs)
-    (λ c. search needs)
-    (λ c. search needs)
-    (λ c. search needs)
-    (λ c. simp length-set (omega arith))
-    (λ c. search needs)
-    (λ c. simp length-set (omega arith))
-    (λ c. search needs)
-    (λ c. simp length-set (omega arith))
-    (λ c. search needs)
-    (λ c. simp length-set (omega arith))
-    (λ c. simp length-set)
-    returns)
+    (λ c. c .before .before .put-low .ensures ∙ ap (lowBytes 8) (c .before .before .before .swapped .ensures) ∙ bytes-swapped _))
