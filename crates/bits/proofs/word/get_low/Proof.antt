@@ -10,7 +10,7 @@ returns : tie.Need-returns
 unfolding number lowNumber
 returns c =
     let s = c .before .before .before .before .before .before .before .before .before .before in
-    rw (by-elements (s .args .part .now) 8 (s .pre)) (c .joined .ensures)
+    rw (by-elements (s .args .part .now) 8 (s .pre)) (c .summed .ensures)
 
 pub get-low-spec : {M : Type 1} → statement M
 get-low-spec =
