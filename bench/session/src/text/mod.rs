@@ -8,17 +8,23 @@ mod cursor;
 mod error;
 mod lines;
 mod parse;
+mod parse_expected;
+mod parse_request;
+mod parse_standing;
 mod print;
 mod script;
 mod words;
 
+pub use bytes::text as bytes_text;
 pub use change::changes;
 pub use error::Error;
 pub use parse::parse;
-pub use print::{print_script, token_text};
+pub use print::{print_request, print_script, print_standing};
 pub use script::{
     Ask, Comments, EntryLine, Expected, Names, Script, Standing, StatedState, Unresolved, Word,
 };
+
+pub use words::{number, number_text, permissions_text, token_text};
 
 use crate::Session;
 use bridge::Reply;
@@ -37,4 +43,8 @@ pub fn print_with(session: &Session, replies: &[Reply]) -> String {
     let mut script = Script::of(session);
     script.name_tokens(replies);
     print_script(&script)
+}
+
+fn owned(lines: &[&str]) -> Vec<String> {
+    lines.iter().map(|line| line.to_string()).collect()
 }

@@ -1,15 +1,13 @@
 //! Script to text.
 
-use super::parse::FIELDS;
 use super::script::{Ask, EntryLine, Expected, Script, Standing, StatedState, Word};
+use super::words::token_text;
 use super::{bytes, words, FILL};
 use crate::entry::{self, Field, ENTRY};
 use crate::token::PARENT_ENCODING;
 use crate::World;
 use bridge::{Operation, State};
 use std::fmt::Write;
-
-pub use super::words::token_text;
 
 /// Requests longer than this do not push the results of the others to the right.
 const WIDEST: usize = 64;
@@ -22,7 +20,7 @@ pub fn print_script(script: &Script) -> String {
     if script.exact {
         text.push_str("exact\n");
     }
-    let requests: Vec<String> = script.asks.iter().map(request_text).collect();
+    let requests: Vec<String> = script.asks.iter().map(print_request).collect();
     let short = requests.iter().map(String::len).filter(|length| *length <= WIDEST);
     let width = short.max().unwrap_or(0);
     for (ask, request) in script.asks.iter().zip(requests) {
@@ -74,7 +72,7 @@ fn push_ask(text: &mut String, ask: &Ask, request: &str, width: usize) {
 }
 
 /// The request with its words; those that are zero are left out unless the operation lives by them.
-fn request_text(ask: &Ask) -> String {
+pub fn print_request(ask: &Ask) -> String {
     let operation = Operation::of(ask.words.operation);
     let mut text = match operation {
         Some(operation) => operation.name().to_string(),
@@ -208,6 +206,13 @@ fn name_text(name: &Option<String>, token: Option<u64>) -> String {
     }
 }
 
+/// What stands, as its line.
+pub fn print_standing(standing: &Standing) -> String {
+    let mut text = String::new();
+    push_standing(&mut text, "", standing);
+    text.trim_end().to_string()
+}
+
 /// A line on what stands, or several for long bytes.
 fn push_standing(text: &mut String, mark: &str, standing: &Standing) {
     match standing {
@@ -273,7 +278,7 @@ fn always_shown(field: Field) -> bool {
 /// In a whole entry a flag stands alone.
 fn whole_field_text(field: Field, value: u64) -> String {
     match field {
-        Field::Locked | Field::Lockable | Field::Cow => format!(" {}", field_name(field)),
+        Field::Locked | Field::Lockable | Field::Cow => format!(" {}", words::field_name(field)),
         _ => field_text(field, value),
     }
 }
@@ -285,10 +290,5 @@ fn field_text(field: Field, value: u64) -> String {
         Field::Tag => format!("{value:#06x}"),
         _ => words::number_text(value),
     };
-    format!(" {} {value}", field_name(field))
-}
-
-/// The word of a field.
-pub fn field_name(field: Field) -> &'static str {
-    FIELDS.iter().find(|(_, other)| *other == field).map_or("", |(name, _)| name)
+    format!(" {} {value}", words::field_name(field))
 }

@@ -3,7 +3,7 @@
 use std::collections::HashMap;
 
 use super::words;
-use crate::entry::{self, Field};
+use crate::entry::{self, Field, ENTRY};
 use crate::token::Token;
 use crate::{Session, Step, World};
 use bridge::{Operation, Reply, State, Words};
@@ -131,6 +131,35 @@ impl Word {
     }
 }
 
+impl Standing {
+    /// Makes it stand. Places lie inside the world that the text was read for.
+    pub fn put(&self, world: &mut World) {
+        match self {
+            Standing::State(state) => state.put(&mut world.state),
+            Standing::Entry { number, line } => put_entry(&mut world.table, *number, line),
+            Standing::Table { at, bytes } => {
+                world.table[*at..at + bytes.len()].copy_from_slice(bytes);
+            }
+            Standing::Memory { at, bytes } => {
+                world.memory[*at..at + bytes.len()].copy_from_slice(bytes);
+            }
+        }
+    }
+}
+
+fn put_entry(table: &mut [u8], number: usize, line: &EntryLine) {
+    let Some(mut bytes) = entry::at(table, number) else {
+        return;
+    };
+    match line {
+        EntryLine::Whole(whole) => bytes = *whole,
+        EntryLine::Fields(fields) => {
+            fields.iter().for_each(|(field, value)| entry::set(&mut bytes, *field, *value));
+        }
+    }
+    table[ENTRY * number..][..ENTRY].copy_from_slice(&bytes);
+}
+
 impl StatedState {
     pub fn all(state: &State) -> StatedState {
         let State { key, last_number, next_nonce } = *state;
@@ -221,10 +250,11 @@ impl Script {
         let mut given: Vec<(String, u64)> = Vec::new();
         for (at, (ask, reply)) in self.asks.iter_mut().zip(replies).enumerate() {
             ask.use_names(&given);
-            let names = token_names(ask.words.operation, at + 1);
-            ask.expect(reply, names);
-            let expected = ask.expected.iter();
-            given.extend(expected.flat_map(Expected::named_tokens));
+            let [first, second] = token_names(ask.words.operation, at + 1);
+            let names = [first, second.filter(|_| reply.second != 0)];
+            let expected = Expected::of(reply, names);
+            given.extend(expected.named_tokens());
+            ask.expected = Some(expected);
         }
     }
 }
@@ -244,27 +274,25 @@ impl Ask {
             self.second = named(words.second, given);
         }
     }
-
-    fn expect(&mut self, reply: &Reply, names: [Option<String>; 2]) {
-        let granted = reply.refusal == 0;
-        let [first, second] = names.map(|name| name.filter(|_| granted));
-        let second = second.filter(|_| reply.second != 0);
-        let stated = |word: u64, name: &Option<String>| {
-            Some(word).filter(|word| *word != 0 || name.is_some())
-        };
-        self.expected = Some(Expected {
-            refusal: reply.refusal,
-            place: Some(reply.place).filter(|place| *place != 0),
-            first: stated(reply.first, &first),
-            second: stated(reply.second, &second),
-            number: Some(reply.dropped).filter(|number| *number != 0),
-            buffer: None,
-            names: [first, second],
-        });
-    }
 }
 
 impl Expected {
+    /// All that an answer gives, under these names. Zeros are not stated.
+    pub fn of(reply: &Reply, names: [Option<String>; 2]) -> Expected {
+        let granted = reply.refusal == 0;
+        let [first, second] = names.map(|name| name.filter(|_| granted));
+        let stated = |word: u64, named: bool| Some(word).filter(|word| *word != 0 || named);
+        Expected {
+            refusal: reply.refusal,
+            place: stated(reply.place, false),
+            first: stated(reply.first, first.is_some()),
+            second: stated(reply.second, second.is_some()),
+            number: stated(reply.dropped, false),
+            buffer: None,
+            names: [first, second],
+        }
+    }
+
     fn named_tokens(&self) -> Vec<(String, u64)> {
         let tokens = [self.first, self.second];
         let both = self.names.iter().cloned().zip(tokens);
