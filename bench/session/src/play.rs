@@ -1,7 +1,7 @@
 //! Playing a script: asking its requests one by one, and comparing what is expected.
 
 use crate::text::{
-    changes, print_standing, token_text, Ask, Expected, Names, Script, Standing, Unresolved,
+    changes, print_standing, token_text, Ask, Expected, Names, Script, Standing, Unresolved, Word,
 };
 use crate::World;
 use bridge::{Reply, Words};
@@ -49,7 +49,7 @@ pub struct Player<'a, S> {
 
 impl<'a, S: Server> Player<'a, S> {
     pub fn new(script: &Script, server: &'a mut S) -> Player<'a, S> {
-        Player { server, exact: script.exact, world: script.world.clone(), names: Names::new() }
+        Player { server, exact: script.exact, world: script.world(), names: Names::new() }
     }
 
     /// Asks one request. A request with a name that nobody gave is not asked.
@@ -187,6 +187,26 @@ fn state_all(ask: &mut Ask, played: Played) {
     let Played { reply, buffer, changes, .. } = played;
     let names = ask.expected.take().map_or([None, None], |expected| expected.names);
     let buffer = Some(buffer).filter(|buffer| *buffer != ask.buffer);
-    ask.expected = Some(Expected { buffer, ..Expected::of(&reply, names) });
+    ask.expected = Some(Expected { buffer, ..Expected::of(ask.words.operation, &reply, names) });
     ask.standing = changes;
+}
+
+/// The least first key word of the first request, a reset, with which a script goes as it expects:
+/// the way to sessions that come by chance only.
+pub fn search<S: Server>(script: &Script, server: &mut S, limit: u64) -> Option<u64> {
+    let mut script = script.clone();
+    (0..limit).find(|key| {
+        if let Some(reset) = script.asks.first_mut() {
+            reset.token = Word::Number(*key);
+        }
+        goes_as_expected(&script, server)
+    })
+}
+
+/// Whether nothing differs from what a script expects; it ends at the first difference.
+pub fn goes_as_expected<S: Server>(script: &Script, server: &mut S) -> bool {
+    let mut player = Player::new(script, server);
+    let mut as_expected =
+        |ask: &Ask| player.play(ask).is_ok_and(|played| played.differences.is_empty());
+    script.asks.iter().all(&mut as_expected)
 }

@@ -7,9 +7,10 @@ use crate::arguments::Arguments;
 
 mod record;
 mod replay;
+mod search;
 
 /// Every command. A further one is a module above and a line here.
-pub const COMMANDS: &[&Command] = &[&replay::COMMAND, &record::COMMAND];
+pub const COMMANDS: &[&Command] = &[&replay::COMMAND, &record::COMMAND, &search::COMMAND];
 
 pub struct Command {
     pub name: &'static str,

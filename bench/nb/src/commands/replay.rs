@@ -136,8 +136,11 @@ fn replay<S: Server>(
             write_played(ask, &played, options.style, out)?;
         }
     }
-    let end = if options.brief { format!("{file}: ") } else { String::new() };
-    writeln!(out, "{end}{}\n", verdict_text(&own, options.style).trim_end())?;
+    let (lead, end) = if options.brief { (file, ": ") } else { ("", "") };
+    writeln!(out, "{lead}{end}{}", verdict_text(&own, options.style))?;
+    if !options.brief {
+        writeln!(out)?;
+    }
     if options.map {
         writeln!(out, "{}", map::draw(&player.world, &player.names, options.style))?;
     }
@@ -165,7 +168,7 @@ fn verdict_text(sum: &Sum, style: Style) -> String {
 
 /// What the file says that it is about, in its first comment.
 fn about(script: &Script) -> String {
-    let first = script.above.iter().find_map(|line| line.strip_prefix('#'));
+    let first = script.head.above.iter().find_map(|line| line.strip_prefix('#'));
     first.map_or(String::new(), |about| format!(": {}", about.trim()))
 }
 

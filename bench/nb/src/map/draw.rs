@@ -23,8 +23,7 @@ pub fn draw(world: &World, names: &Names, style: Style) -> String {
     let mut text = String::new();
     map.push_head(&mut text);
     map.push_segments(&mut text);
-    map.push_dead(&mut text);
-    map.push_ill_formed(&mut text);
+    map.push_others(&mut text);
     text
 }
 
@@ -56,6 +55,7 @@ impl Map<'_> {
             ("direct", count(|judged| *judged == Judged::Direct)),
             ("derived", count(|judged| matches!(judged, Judged::Indirect(Link::Alive { .. })))),
             ("dead", count(|judged| matches!(judged, Judged::Indirect(Link::Dead(_))))),
+            ("under an ill-formed entry", count(is_under_ill_formed)),
             ("ill-formed", count(|judged| matches!(judged, Judged::IllFormed(_)))),
             ("free", count(|judged| *judged == Judged::Free)),
         ];
@@ -187,23 +187,28 @@ impl Map<'_> {
                 issued(&entry)
             );
             self.push_line(text, &line);
+            if reach.start < segment.start || reach.end > segment.end {
+                let outside = format!("! #{} lies outside its owner's segment", branch.number);
+                self.push_line(text, &self.style.wrong(&outside));
+            }
         }
     }
 
-    fn push_dead(&self, text: &mut String) {
-        let dead = self.judged.iter().enumerate().filter_map(|(number, judged)| match judged {
-            Judged::Indirect(Link::Dead(reason)) => Some((number, reason.as_str())),
-            _ => None,
-        });
-        self.push_apart(text, "dead", dead.collect());
-    }
-
-    fn push_ill_formed(&self, text: &mut String) {
-        let bad = self.judged.iter().enumerate().filter_map(|(number, judged)| match judged {
-            Judged::IllFormed(reason) => Some((number, *reason)),
-            _ => None,
-        });
-        self.push_apart(text, "ill-formed", bad.collect());
+    /// What is not part of the drawing, by the reason for it.
+    fn push_others(&self, text: &mut String) {
+        let mut apart =
+            [("dead", vec![]), ("under an ill-formed entry", vec![]), ("ill-formed", vec![])];
+        for (number, judged) in self.judged.iter().enumerate() {
+            match judged {
+                Judged::Indirect(Link::Dead(reason)) => apart[0].1.push((number, reason.as_str())),
+                Judged::Indirect(Link::IllFormed(reason)) => {
+                    apart[1].1.push((number, reason.as_str()));
+                }
+                Judged::IllFormed(reason) => apart[2].1.push((number, *reason)),
+                _ => {}
+            }
+        }
+        apart.into_iter().for_each(|(what, entries)| self.push_apart(text, what, entries));
     }
 
     /// Entries that have no place in the drawing, with the reason.
@@ -227,6 +232,10 @@ impl Map<'_> {
             let _ = writeln!(text, "    {title}: {place}\n        {}", self.style.wrong(reason));
         }
     }
+}
+
+fn is_under_ill_formed(judged: &Judged) -> bool {
+    matches!(judged, Judged::Indirect(Link::IllFormed(_)))
 }
 
 /// Permissions as three places, and the count.

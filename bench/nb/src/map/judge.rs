@@ -18,6 +18,8 @@ pub enum Link {
     Alive { parent: usize },
     /// Nowhere, for this reason.
     Dead(String),
+    /// To an ill-formed entry.
+    IllFormed(String),
 }
 
 /// Every entry of a table, judged.
@@ -89,8 +91,11 @@ fn link(entries: &[Bytes], judged: &[Judged], number: usize) -> Link {
         return Link::Dead(format!("its parent #{at} has nonce {nonce}, which is not below {own}"));
     }
     match &judged[at] {
-        Judged::IllFormed(_) => Link::Dead(format!("its parent #{at} is ill-formed")),
+        Judged::IllFormed(_) => Link::IllFormed(format!("its parent #{at} is ill-formed")),
         Judged::Indirect(Link::Dead(_)) => Link::Dead(format!("its parent #{at} is dead")),
+        Judged::Indirect(Link::IllFormed(_)) => {
+            Link::IllFormed(format!("its parent #{at} leads to an ill-formed entry"))
+        }
         _ => Link::Alive { parent: at },
     }
 }

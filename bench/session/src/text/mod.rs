@@ -21,13 +21,15 @@ pub use error::Error;
 pub use parse::parse;
 pub use print::{print_request, print_script, print_standing};
 pub use script::{
-    Ask, Comments, EntryLine, Expected, Names, Script, Standing, StatedState, Unresolved, Word,
+    Ask, Comments, EntryLine, Expected, Names, Script, Sizes, Standing, Start, StatedState,
+    Unresolved, Word,
 };
 
 pub use words::{number, number_text, permissions_text, token_text};
 
 use crate::Session;
 use bridge::Reply;
+use lines::Line;
 
 /// The byte that fills a read's buffer where the text gives its length only.
 pub const FILL: u8 = 0xA5;
@@ -45,6 +47,8 @@ pub fn print_with(session: &Session, replies: &[Reply]) -> String {
     print_script(&script)
 }
 
-fn owned(lines: &[&str]) -> Vec<String> {
-    lines.iter().map(|line| line.to_string()).collect()
+/// The comments of a line.
+fn comments(line: &Line) -> Comments {
+    let above = line.above.iter().map(|line| line.to_string()).collect();
+    Comments { above, behind: line.comment.map(str::to_string) }
 }

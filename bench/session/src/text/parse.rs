@@ -3,15 +3,14 @@
 use std::collections::HashSet;
 
 use super::bytes::LIMIT;
+use super::comments;
 use super::cursor::Cursor;
 use super::error::Error;
 use super::lines::{self, Line};
-use super::owned;
 use super::parse_request::request;
 use super::parse_standing::standing;
-use super::script::Script;
+use super::script::{Script, Sizes, Start};
 use crate::entry::ENTRY;
-use crate::World;
 
 const HEAD: &str = "the first line: 'memory BYTES entries NUMBER'";
 
@@ -25,7 +24,7 @@ pub fn parse(text: &str) -> Result<Script, Error> {
     }
     let end = Cursor::new(last);
     let mut script = reader.script.ok_or_else(|| end.error(HEAD))?;
-    script.below = owned(&last.above);
+    script.below = comments(last).above;
     Ok(script)
 }
 
@@ -44,10 +43,10 @@ impl Reader {
             self.script = Some(head(&mut cursor, line)?);
             return Ok(());
         };
-        let world = &script.world;
+        let sizes = script.sizes;
         match script.asks.last_mut() {
-            Some(ask) if cursor.take("=") => ask.standing.push(standing(&mut cursor, world)?),
-            None if is_start(&cursor) => start(&mut cursor, script)?,
+            Some(ask) if cursor.take("=") => ask.standing.push(standing(&mut cursor, sizes)?),
+            None if is_start(&cursor) => start(&mut cursor, line, script)?,
             _ => {
                 let ask = request(&mut cursor, line, script.exact, &mut self.names)?;
                 script.asks.push(ask);
@@ -70,10 +69,10 @@ fn head(cursor: &mut Cursor, line: &Line) -> Result<Script, Error> {
         _ => return Err(cursor.error_before("'entries' or 'table'")),
     };
     cursor.end("the line's end")?;
-    let world = World::zeros(table as usize, memory as usize);
     Ok(Script {
-        above: owned(&line.above),
-        world,
+        head: comments(line),
+        sizes: Sizes { table: table as usize, memory: memory as usize },
+        start: Vec::new(),
         exact: false,
         asks: Vec::new(),
         below: Vec::new(),
@@ -84,13 +83,13 @@ fn is_start(cursor: &Cursor) -> bool {
     matches!(cursor.peek(), Some("exact" | "state" | "entry" | "table" | "at"))
 }
 
-/// A line of the start: it sets what it states.
-fn start(cursor: &mut Cursor, script: &mut Script) -> Result<(), Error> {
+/// A line of the start.
+fn start(cursor: &mut Cursor, line: &Line, script: &mut Script) -> Result<(), Error> {
     if cursor.take("exact") {
         script.exact = true;
         return Ok(());
     }
-    let stated = standing(cursor, &script.world)?;
-    stated.put(&mut script.world);
+    let standing = standing(cursor, script.sizes)?;
+    script.start.push(Start { comments: comments(line), standing });
     Ok(())
 }

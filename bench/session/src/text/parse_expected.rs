@@ -102,8 +102,8 @@ fn new_name(
         return Ok((None, None));
     }
     let expected = match exact {
-        true => "a new name with '=' and its token, as the session is exact",
-        false => "a new name, with '=' and its token behind if it is to be fixed",
+        true => "a new name that is no word of a request, with '=' and its token, as the session is exact",
+        false => "a new name that is no word of a request, '=' and its token behind if they are fixed",
     };
     let (name, token) = cursor.value(expected, |word| named_token(word, exact))?;
     if !names.insert(name.clone()) {

@@ -8,13 +8,13 @@ use super::error::Error;
 use super::lines::Line;
 use super::parse_expected::expected;
 use super::parse_standing::key;
-use super::script::{Ask, Comments, Word};
-use super::{owned, words, FILL};
+use super::script::{Ask, Word};
+use super::{comments, words, FILL};
 use crate::Step;
 use bridge::{Operation, Words};
 
 const REQUEST: &str = "a request: 'reset', 'read', 'write', 'fetch', 'create', 'merge', 'derive', \
-     'execute-only', 'clone', 'drop', 'lock', 'unlock', 'revoke' or 'operation'";
+     'execute-only', 'clone', 'drop', 'lock', 'unlock', 'revoke' or 'operation', or '=' with what must stand after one";
 const TOKEN: &str = "a token: 'root', a name given before, '@NUMBER:TAG' or a number, with \
      '/ENCODING' and '+OFFSET' behind if needed";
 
@@ -29,8 +29,7 @@ pub fn request(
     let mut ask = operation(cursor, names)?;
     let lengthless = transfer(cursor, &mut ask)?;
     ask.line = number;
-    let behind = line.comment.map(str::to_string);
-    ask.comments = Comments { above: owned(&line.above), behind };
+    ask.comments = comments(line);
     let given = arguments(cursor, names, &mut ask)?;
     if let Some(error) = lengthless.filter(|_| !given.contains("buffer")) {
         return Err(error);

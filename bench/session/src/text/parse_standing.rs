@@ -3,24 +3,23 @@
 use super::bytes;
 use super::cursor::Cursor;
 use super::error::Error;
-use super::script::{EntryLine, Standing, StatedState, Word};
+use super::script::{EntryLine, Sizes, Standing, StatedState, Word};
 use super::words;
 use crate::entry::{self, Field, ENTRY};
 use crate::token::PARENT_ENCODING;
-use crate::World;
 
 /// `state`, `entry`, `table` or `at`, with what it states.
-pub fn standing(cursor: &mut Cursor, world: &World) -> Result<Standing, Error> {
+pub fn standing(cursor: &mut Cursor, sizes: Sizes) -> Result<Standing, Error> {
     let expected = "'state', 'entry', 'table' or 'at'";
     match cursor.next(expected)? {
         "state" => state(cursor),
-        "entry" => entry_line(cursor, world),
+        "entry" => entry_line(cursor, sizes),
         "table" => {
-            let (at, bytes) = placed(cursor, world.table.len(), "the table")?;
+            let (at, bytes) = placed(cursor, sizes.table, "the table")?;
             Ok(Standing::Table { at, bytes })
         }
         "at" => {
-            let (at, bytes) = placed(cursor, world.memory.len(), "memory")?;
+            let (at, bytes) = placed(cursor, sizes.memory, "memory")?;
             Ok(Standing::Memory { at, bytes })
         }
         _ => Err(cursor.error_before(expected)),
@@ -62,8 +61,8 @@ pub fn key(cursor: &mut Cursor) -> Result<[u64; 2], Error> {
 }
 
 /// `entry NUMBER` with `free`, `bytes BYTES`, `direct FIELDS`, `indirect FIELDS` or fields alone.
-fn entry_line(cursor: &mut Cursor, world: &World) -> Result<Standing, Error> {
-    let entries = world.table.len() / ENTRY;
+fn entry_line(cursor: &mut Cursor, sizes: Sizes) -> Result<Standing, Error> {
+    let entries = sizes.table / ENTRY;
     let Some(last) = entries.checked_sub(1) else {
         return Err(cursor.error("no entry, as the table has none"));
     };

@@ -2,6 +2,7 @@
 
 use std::collections::HashMap;
 
+use super::change::changes;
 use super::words;
 use crate::entry::{self, Field, ENTRY};
 use crate::token::Token;
@@ -11,15 +12,31 @@ use bridge::{Operation, Reply, State, Words};
 /// A start, and requests with what is expected of them.
 #[derive(Clone, Debug, PartialEq, Eq)]
 pub struct Script {
-    /// Comments and blank lines above the first line.
-    pub above: Vec<String>,
-    pub world: World,
+    /// Comments at the first line, which gives the sizes.
+    pub head: Comments,
+    pub sizes: Sizes,
+    /// What stands at the start, where it is not zero.
+    pub start: Vec<Start>,
     /// Whether everything is fixed: what no line states is as it was before the request, and words of
     /// an answer that are not stated are 0.
     pub exact: bool,
     pub asks: Vec<Ask>,
     /// Comments and blank lines at the end.
     pub below: Vec<String>,
+}
+
+/// The lengths of table and memory in bytes.
+#[derive(Clone, Copy, Debug, PartialEq, Eq)]
+pub struct Sizes {
+    pub table: usize,
+    pub memory: usize,
+}
+
+/// Something that stands at the start.
+#[derive(Clone, Debug, PartialEq, Eq)]
+pub struct Start {
+    pub comments: Comments,
+    pub standing: Standing,
 }
 
 /// Comments and blank lines above a line, and a comment behind it.
@@ -225,13 +242,26 @@ impl Ask {
 
 impl Script {
     pub fn of(session: &Session) -> Script {
+        let World { table, memory, .. } = &session.world;
+        let sizes = Sizes { table: table.len(), memory: memory.len() };
+        let start = start_of(&session.world).into_iter();
         Script {
-            above: Vec::new(),
-            world: session.world.clone(),
+            head: Comments::default(),
+            sizes,
+            start: start
+                .map(|standing| Start { comments: Comments::default(), standing })
+                .collect(),
             exact: false,
             asks: session.steps.iter().map(Ask::of).collect(),
             below: Vec::new(),
         }
+    }
+
+    /// What stands at the start.
+    pub fn world(&self) -> World {
+        let mut world = World::zeros(self.sizes.table, self.sizes.memory);
+        self.start.iter().for_each(|start| start.standing.put(&mut world));
+        world
     }
 
     /// The session, if every name that is used has its token stated.
@@ -242,7 +272,7 @@ impl Script {
             steps.push(Step { request: ask.resolve(&names)?, buffer: ask.buffer.clone() });
             ask.add_names(None, &mut names);
         }
-        Ok(Session { world: self.world.clone(), steps })
+        Ok(Session { world: self.world(), steps })
     }
 
     /// Expects these replies, names the tokens that they give, and uses the names from there on.
@@ -252,11 +282,19 @@ impl Script {
             ask.use_names(&given);
             let [first, second] = token_names(ask.words.operation, at + 1);
             let names = [first, second.filter(|_| reply.second != 0)];
-            let expected = Expected::of(reply, names);
+            let expected = Expected::of(ask.words.operation, reply, names);
             given.extend(expected.named_tokens());
             ask.expected = Some(expected);
         }
     }
+}
+
+/// All that is not zero in a world. A state is stated whole.
+fn start_of(world: &World) -> Vec<Standing> {
+    let zeros = World::zeros(world.table.len(), world.memory.len());
+    let state = (world.state != State::default()).then(|| StatedState::all(&world.state));
+    let rest = changes(&World { state: world.state, ..zeros }, world);
+    state.map(Standing::State).into_iter().chain(rest).collect()
 }
 
 impl Ask {
@@ -277,9 +315,10 @@ impl Ask {
 }
 
 impl Expected {
-    /// All that an answer gives, under these names. Zeros are not stated.
-    pub fn of(reply: &Reply, names: [Option<String>; 2]) -> Expected {
+    /// All that an answer gives, under these names. Zeros are not stated, but for drop's number.
+    pub fn of(operation: u64, reply: &Reply, names: [Option<String>; 2]) -> Expected {
         let granted = reply.refusal == 0;
+        let dropped = granted && operation == Operation::Drop as u64;
         let [first, second] = names.map(|name| name.filter(|_| granted));
         let stated = |word: u64, named: bool| Some(word).filter(|word| *word != 0 || named);
         Expected {
@@ -287,7 +326,7 @@ impl Expected {
             place: stated(reply.place, false),
             first: stated(reply.first, first.is_some()),
             second: stated(reply.second, second.is_some()),
-            number: stated(reply.dropped, false),
+            number: stated(reply.dropped, dropped),
             buffer: None,
             names: [first, second],
         }

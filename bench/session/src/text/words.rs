@@ -56,19 +56,9 @@ pub fn permissions_text(permissions: u64) -> String {
     }
 }
 
-/// Words that cannot be names, since the format uses them.
-const RESERVED: [&str; 48] = [
+/// Words that cannot be names, since the lines of requests use them.
+const RESERVED: [&str; 34] = [
     "root",
-    "memory",
-    "entries",
-    "table",
-    "exact",
-    "state",
-    "entry",
-    "at",
-    "key",
-    "last",
-    "nonce",
     "reset",
     "read",
     "write",
@@ -83,6 +73,8 @@ const RESERVED: [&str; 48] = [
     "unlock",
     "revoke",
     "operation",
+    "key",
+    "nonce",
     "token",
     "second",
     "first",
@@ -98,14 +90,8 @@ const RESERVED: [&str; 48] = [
     "ancestor",
     "number",
     "as",
-    "direct",
-    "indirect",
-    "free",
-    "bytes",
-    "base",
-    "parent",
-    "count",
-    "tag",
+    "exact",
+    "entry",
 ];
 
 pub fn is_name(word: &str) -> bool {
