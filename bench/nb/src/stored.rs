@@ -84,6 +84,7 @@ pub fn all() -> Vec<Stored> {
         "handed-entry-zero",
         "handed-free-with-bytes",
         "handed-high-nonces",
+        "places-of-each-operation",
         "order-access",
         "order-create",
         "order-derive",

@@ -1,9 +1,10 @@
 //! Playing a script: asking its requests one by one, and comparing what is expected.
 
 use crate::text::{
-    changes, print_standing, token_text, Ask, Expected, Names, Script, Standing, Unresolved, Word,
+    changes, print_standing, token_text, Ask, EntryLine, Expected, Names, Script, Standing,
+    Unresolved, Word,
 };
-use crate::World;
+use crate::{entry, World};
 use bridge::{Reply, Words};
 
 /// Whoever serves requests: the proved code, the model, a simulator.
@@ -37,6 +38,13 @@ pub struct Difference {
     pub what: String,
     pub expected: String,
     pub given: String,
+}
+
+impl Difference {
+    fn of_standing(expected: &Standing, given: &Standing) -> Difference {
+        let (expected, given) = (print_standing(expected), print_standing(given));
+        Difference { what: "what stands".to_string(), expected, given }
+    }
 }
 
 /// A script that is being played.
@@ -116,12 +124,24 @@ impl<'a, S: Server> Player<'a, S> {
         let wanted = changes(&self.world, &expected);
         let given = changes(&expected, &self.world);
         let both = wanted.iter().zip(&given);
-        both.map(|(wanted, given)| Difference {
-            what: "what stands".to_string(),
-            expected: print_standing(wanted),
-            given: print_standing(given),
-        })
-        .collect()
+        let differing = both.map(|(wanted, given)| Difference::of_standing(wanted, given));
+        differing.chain(self.fieldless(ask)).collect()
+    }
+
+    /// Entries whose type has not the fields that are stated of them.
+    fn fieldless(&self, ask: &Ask) -> Vec<Difference> {
+        let stated = ask.standing.iter().filter_map(|standing| {
+            let Standing::Entry { number, line: EntryLine::Fields(fields) } = standing else {
+                return None;
+            };
+            let given = entry::at(&self.world.table, *number)?;
+            let lacking = fields.iter().any(|(field, _)| entry::width(&given, *field).is_none());
+            let line = EntryLine::Whole(given);
+            lacking.then(|| {
+                Difference::of_standing(standing, &Standing::Entry { number: *number, line })
+            })
+        });
+        stated.collect()
     }
 }
 

@@ -9,6 +9,8 @@ mod record;
 mod replay;
 mod search;
 
+pub use record::recorded;
+
 /// Every command. A further one is a module above and a line here.
 pub const COMMANDS: &[&Command] = &[&replay::COMMAND, &record::COMMAND, &search::COMMAND];
 

@@ -9,7 +9,7 @@ use super::error::Error;
 use super::lines::{self, Line};
 use super::parse_request::request;
 use super::parse_standing::standing;
-use super::script::{Script, Sizes, Start};
+use super::script::{EntryLine, Script, Sizes, Standing, Start};
 use crate::entry::ENTRY;
 
 const HEAD: &str = "the first line: 'memory BYTES entries NUMBER'";
@@ -23,6 +23,9 @@ pub fn parse(text: &str) -> Result<Script, Error> {
         reader.line(line)?;
     }
     let end = Cursor::new(last);
+    if !last.words.is_empty() {
+        return Err(end.error_at_end("a further line, as the last one ends in '\\'"));
+    }
     let mut script = reader.script.ok_or_else(|| end.error(HEAD))?;
     script.below = comments(last).above;
     Ok(script)
@@ -89,7 +92,11 @@ fn start(cursor: &mut Cursor, line: &Line, script: &mut Script) -> Result<(), Er
         script.exact = true;
         return Ok(());
     }
+    let place = Cursor::new(line).error_at(2, "'free', 'direct', 'indirect' or 'bytes'");
     let standing = standing(cursor, script.sizes)?;
+    if let Standing::Entry { line: EntryLine::Fields(_), .. } = standing {
+        return Err(place);
+    }
     script.start.push(Start { comments: comments(line), standing });
     Ok(())
 }
