@@ -113,8 +113,8 @@ impl<'a, S: Server> Player<'a, S> {
         })
     }
 
-    /// Where state, table and memory are not as expected. In an exact script all that no line states
-    /// is as before.
+    /// Where state, table and memory are not as expected. In an exact script all that no line
+    /// states is as before.
     fn standing_differences(&self, ask: &Ask, before: &World) -> Vec<Difference> {
         if ask.standing.is_empty() && !self.exact {
             return Vec::new();

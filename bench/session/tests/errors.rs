@@ -104,6 +104,8 @@ fn results() {
     holds_in("revoke root -> 0 as 5", 21, "a new name", "'5'");
     holds_in("revoke root -> 2 as two", 18, "a refusal gives no token", "'as'");
     holds_in("revoke root -> 0 first one", 24, "a token: 'root', '@NUMBER:TAG'", "'one'");
+    holds_in("revoke root -> 0 first @1:2 as a=@1:3", 32, "each token once", "'a=@1:3'");
+    holds_in("revoke root -> 0 as a=@1:3 first @1:2", 28, "each token once", "'first'");
     holds_in("drop root -> 0 number 1 number 1", 25, "'number' once only", "'number'");
 }
 

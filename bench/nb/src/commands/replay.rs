@@ -1,7 +1,7 @@
 //! `nb replay`: asks the requests of session files and marks what differs.
 
 use std::fs;
-use std::io::{self, Read, Write};
+use std::io::{self, Write};
 
 use super::{Command, Failure, Verdict};
 use crate::answer::answer_text;
@@ -99,18 +99,12 @@ fn replay_all<S: Server>(
 pub fn read(file: &str) -> Result<Script, Failure> {
     let text = match file {
         "-" => io::read_to_string(io::stdin().lock()),
-        _ => read_file(file),
+        _ => fs::read_to_string(file),
     };
     let text = text.map_err(|error| {
         Failure::Input(format!("expected a session file, cannot read {file}: {error}"))
     })?;
     parse(&text).map_err(|error| Failure::Input(format!("{file}: {error}")))
-}
-
-fn read_file(file: &str) -> io::Result<String> {
-    let mut text = String::new();
-    fs::File::open(file)?.read_to_string(&mut text)?;
-    Ok(text)
 }
 
 fn replay<S: Server>(

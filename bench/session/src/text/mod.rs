@@ -39,8 +39,8 @@ pub fn print(session: &Session) -> String {
     print_script(&Script::of(session))
 }
 
-/// A session as text with the replies that are expected, one for each request; tokens that they give
-/// are named. Parsing gives the same session.
+/// A session as text with the replies that are expected, one for each request; tokens that they
+/// give are named. Parsing gives the same session.
 pub fn print_with(session: &Session, replies: &[Reply]) -> String {
     let mut script = Script::of(session);
     script.name_tokens(replies);

@@ -38,8 +38,8 @@ struct Reader {
 }
 
 impl Reader {
-    /// One line: the sizes first, then what stands at the start, then requests, each with lines that
-    /// say what must stand after it.
+    /// One line: the sizes first, then what stands at the start, then requests, each with lines
+    /// that say what must stand after it.
     fn line(&mut self, line: &Line) -> Result<(), Error> {
         let mut cursor = Cursor::new(line);
         let Some(script) = &mut self.script else {

@@ -8,6 +8,8 @@ use super::error::Error;
 use super::script::{Expected, Word};
 use super::words;
 
+const TWICE: &str = "each token once, by 'first', 'second' or 'as'";
+
 /// What stands behind `->`.
 pub fn expected(
     cursor: &mut Cursor,
@@ -50,24 +52,19 @@ fn result(
     names: &mut HashSet<String>,
     expected: &mut Expected,
 ) -> Result<(), Error> {
-    let twice = "each token once, by 'first', 'second' or 'as'";
     match word {
         "first" if expected.first.is_none() => expected.first = Some(literal(cursor)?),
         "second" if expected.second.is_none() => expected.second = Some(literal(cursor)?),
-        "first" | "second" => return Err(cursor.error_before(twice)),
+        "first" | "second" => return Err(cursor.error_before(TWICE)),
         "number" => expected.number = Some(cursor.number("drop's number")?),
         "buffer" => expected.buffer = Some(bytes::read(cursor)?),
         "as" if expected.refusal != 0 => {
             return Err(cursor.error_before("no name, as a refusal gives no token"))
         }
         "as" => {
-            let (name, token) = new_name(cursor, exact, names)?;
-            expected.names[0] = name;
-            expected.first = token.or(expected.first);
+            expected.names[0] = new_name(cursor, exact, names, &mut expected.first)?;
             if cursor.peek().is_some_and(|word| !is_result(word)) {
-                let (name, token) = new_name(cursor, exact, names)?;
-                expected.names[1] = name;
-                expected.second = token.or(expected.second);
+                expected.names[1] = new_name(cursor, exact, names, &mut expected.second)?;
             }
         }
         _ => {
@@ -92,24 +89,29 @@ fn literal(cursor: &mut Cursor) -> Result<u64, Error> {
     })
 }
 
-/// `NAME` or `NAME=TOKEN`; `-` names nothing.
+/// `NAME` or `NAME=TOKEN`, which states the token too; `-` names nothing.
 fn new_name(
     cursor: &mut Cursor,
     exact: bool,
     names: &mut HashSet<String>,
-) -> Result<(Option<String>, Option<u64>), Error> {
+    stated: &mut Option<u64>,
+) -> Result<Option<String>, Error> {
     if cursor.take("-") {
-        return Ok((None, None));
+        return Ok(None);
     }
     let expected = match exact {
-        true => "a new name that is no word of a request, with '=' and its token, as the session is exact",
-        false => "a new name that is no word of a request, '=' and its token behind if they are fixed",
+        true => "a new name, no word of a request, with '=' and its token, as all is exact here",
+        false => "a new name, no word of a request, with '=' and its token behind if it is fixed",
     };
     let (name, token) = cursor.value(expected, |word| named_token(word, exact))?;
+    if token.is_some() && stated.is_some() {
+        return Err(cursor.error_before(TWICE));
+    }
     if !names.insert(name.clone()) {
         return Err(cursor.error_before("a name that was not given before"));
     }
-    Ok((Some(name), token))
+    *stated = token.or(*stated);
+    Ok(Some(name))
 }
 
 fn named_token(word: &str, exact: bool) -> Option<(String, Option<u64>)> {

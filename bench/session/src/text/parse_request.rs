@@ -14,7 +14,8 @@ use crate::Step;
 use bridge::{Operation, Words};
 
 const REQUEST: &str = "a request: 'reset', 'read', 'write', 'fetch', 'create', 'merge', 'derive', \
-     'execute-only', 'clone', 'drop', 'lock', 'unlock', 'revoke' or 'operation', or '=' with what must stand after one";
+     'execute-only', 'clone', 'drop', 'lock', 'unlock', 'revoke' or 'operation', or '=' with what \
+     must stand after one";
 const TOKEN: &str = "a token: 'root', a name given before, '@NUMBER:TAG' or a number, with \
      '/ENCODING' and '+OFFSET' behind if needed, each inside its width";
 

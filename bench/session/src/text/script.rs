@@ -17,8 +17,8 @@ pub struct Script {
     pub sizes: Sizes,
     /// What stands at the start, where it is not zero.
     pub start: Vec<Start>,
-    /// Whether everything is fixed: what no line states is as it was before the request, and words of
-    /// an answer that are not stated are 0.
+    /// Whether everything is fixed: what no line states is as it was before the request, and words
+    /// of an answer that are not stated are 0.
     pub exact: bool,
     pub asks: Vec<Ask>,
     /// Comments and blank lines at the end.
@@ -221,8 +221,8 @@ impl Ask {
         Ok(Words { token, second, ..self.words })
     }
 
-    /// Adds the names that this request's answer gives. A name whose token is stated stands for that
-    /// one, so that the session is the same whoever answers; another one for what was given.
+    /// Adds the names that this request's answer gives. A name whose token is stated stands for
+    /// that one, so that the session is the same whoever answers; another one for what was given.
     pub fn add_names(&self, given: Option<&Reply>, names: &mut Names) {
         let Some(expected) = &self.expected else {
             return;
