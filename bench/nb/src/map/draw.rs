@@ -4,6 +4,7 @@ use std::fmt::Write;
 use std::ops::Range;
 
 use super::judge::{judge, Judged, Link};
+use super::overview::{letter, overview};
 use super::tree::{branches, children};
 use crate::style::Style;
 use session::entry::{self, Bytes, Field};
@@ -80,12 +81,17 @@ impl Map<'_> {
     fn push_segments(&self, text: &mut String) {
         let mut segments = self.all(|judged| *judged == Judged::Direct);
         segments.sort_by_key(|number| (self.reach(*number).start, *number));
+        let reaches: Vec<Range<u64>> = segments.iter().map(|number| self.reach(*number)).collect();
+        if let Some(strip) = overview(&reaches, self.world.memory.len() as u64) {
+            let _ = writeln!(text, "{strip}\n");
+        }
         let children = children(&self.judged);
         let mut end = (0, 0);
-        for number in segments {
+        for (place, number) in segments.into_iter().enumerate() {
             let reach = self.reach(number);
             self.push_gap(text, end.0..reach.start);
-            self.push_rule(text, reach.start, &self.title(number));
+            let title = format!("{} {}", letter(place), self.title(number));
+            self.push_rule(text, reach.start, &title);
             self.push_overlap(text, end, &reach);
             self.push_owner(text, number);
             self.push_branches(text, number, &children);
@@ -104,11 +110,11 @@ impl Map<'_> {
 
     fn push_rule(&self, text: &mut String, address: u64, title: &str) {
         let dashes = RULE.saturating_sub(title.chars().count());
-        let _ = writeln!(text, "0x{address:06x} +-- {title} {:-<dashes$}", "");
+        let _ = writeln!(text, "0x{address:08x} +-- {title} {:-<dashes$}", "");
     }
 
     fn push_line(&self, text: &mut String, line: &str) {
-        let _ = writeln!(text, "{:8} |   {line}", "");
+        let _ = writeln!(text, "{:10} |   {line}", "");
     }
 
     /// Bytes that no segment has.
@@ -125,7 +131,7 @@ impl Map<'_> {
         let (end, number) = (earlier.0.min(reach.end), earlier.1);
         if reach.start < end {
             let shared = format!(
-                "! overlaps #{number} by {} bytes, 0x{:06x} to 0x{:06x}",
+                "! overlaps #{number} by {} bytes, 0x{:08x} to 0x{:08x}",
                 end - reach.start,
                 reach.start,
                 end - 1
@@ -177,7 +183,7 @@ impl Map<'_> {
         for branch in branches(children, owner) {
             let (entry, reach) = (self.entry(branch.number), self.reach(branch.number));
             let line = format!(
-                "{} {}{}: {} bytes at 0x{:06x}, {}{}",
+                "{} {}{}: {} bytes at 0x{:08x}, {}{}",
                 placed(&reach, &segment),
                 branch.lines,
                 self.title(branch.number),
@@ -220,7 +226,7 @@ impl Map<'_> {
         for (number, reason) in entries {
             let (entry, reach) = (self.entry(number), self.reach(number));
             let place = format!(
-                "{} bytes at 0x{:06x}, {}{}",
+                "{} bytes at 0x{:08x}, {}{}",
                 reach.end - reach.start,
                 reach.start,
                 rights(&entry),

@@ -3,6 +3,7 @@
 
 mod draw;
 mod judge;
+mod overview;
 mod tree;
 
 pub use draw::draw;
