@@ -70,6 +70,7 @@ pub fn all() -> Vec<Stored> {
         "drop-dead-lines",
         "drop-under-lock",
         "locks-through-derived",
+        "locked-by-oneself",
         "not-lockable",
         "revoke",
         "revoke-passes-over",
