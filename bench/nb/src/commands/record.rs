@@ -88,7 +88,7 @@ pub fn recorded(stored: &Stored) -> Result<String, String> {
 
 fn not_recorded(reason: &NotRecorded) -> String {
     match reason {
-        NotRecorded::Unresolved { line, unresolved } => format!("line {line}: {unresolved:?}"),
+        NotRecorded::Unresolved { line, unresolved } => format!("line {line}: {unresolved}"),
         NotRecorded::Differs { line, differences } => {
             let told = differences
                 .iter()

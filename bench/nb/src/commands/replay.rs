@@ -185,7 +185,7 @@ fn write_played(
             played.differences.iter().try_for_each(|one| write_difference(one, style, out))
         }
         Err(unresolved) => {
-            let reason = style.wrong(&format!("not asked: {}", unresolved_text(unresolved)));
+            let reason = style.wrong(&format!("not asked: {unresolved}"));
             writeln!(out, "{line:>5} {} {request:<WIDE$} {reason}", style.wrong("!"))
         }
     }
@@ -198,13 +198,6 @@ fn write_difference(one: &Difference, style: Style, out: &mut dyn Write) -> io::
         _ => format!("{what}: expected {expected}, given {given}"),
     };
     writeln!(out, "        {}", style.wrong(&format!("! {text}")))
-}
-
-fn unresolved_text(unresolved: &Unresolved) -> String {
-    match unresolved {
-        Unresolved::NotGiven(name) => format!("nobody gave '{name}'"),
-        Unresolved::DoesNotFit(name) => format!("the encoding of '{name}' has no room for it"),
-    }
 }
 
 /// One line of at most a certain width.

@@ -1,6 +1,7 @@
 //! A script: a session as it is written, with names, expected results and comments.
 
 use std::collections::HashMap;
+use std::fmt;
 
 use super::change::changes;
 use super::words;
@@ -130,6 +131,17 @@ pub enum Unresolved {
     NotGiven(String),
     /// Its encoding has no room for the number or the offset.
     DoesNotFit(String),
+}
+
+impl fmt::Display for Unresolved {
+    fn fmt(&self, to: &mut fmt::Formatter) -> fmt::Result {
+        match self {
+            Unresolved::NotGiven(name) => write!(to, "nobody gave '{name}'"),
+            Unresolved::DoesNotFit(name) => {
+                write!(to, "the encoding of '{name}' has no room for its number and offset")
+            }
+        }
+    }
 }
 
 impl Word {
