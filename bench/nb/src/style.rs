@@ -26,11 +26,6 @@ impl Style {
         self.paint("33", text)
     }
 
-    /// Something that matters less.
-    pub fn faint(self, text: &str) -> String {
-        self.paint("2", text)
-    }
-
     fn paint(self, code: &str, text: &str) -> String {
         if self.coloured {
             format!("\x1b[{code}m{text}\x1b[0m")
