@@ -1,0 +1,102 @@
+//! Text to script.
+
+use std::collections::HashSet;
+
+use super::bytes::LIMIT;
+use super::comments;
+use super::cursor::Cursor;
+use super::error::Error;
+use super::lines::{self, Line};
+use super::parse_request::request;
+use super::parse_standing::standing;
+use super::script::{EntryLine, Script, Sizes, Standing, Start};
+use crate::entry::ENTRY;
+
+const HEAD: &str = "the first line: 'memory BYTES entries NUMBER'";
+
+/// Reads a session's text.
+pub fn parse(text: &str) -> Result<Script, Error> {
+    let lines = lines::lines(text)?;
+    let (last, lines) = lines.split_last().expect("there is always a last line");
+    let mut reader = Reader::default();
+    for line in lines {
+        reader.line(line)?;
+    }
+    let end = Cursor::new(last);
+    if !last.words.is_empty() {
+        return Err(end.error_at_end("a further line, as the last one ends in '\\'"));
+    }
+    let mut script = reader.script.ok_or_else(|| end.error(HEAD))?;
+    script.below = comments(last).above;
+    Ok(script)
+}
+
+#[derive(Default)]
+struct Reader {
+    script: Option<Script>,
+    names: HashSet<String>,
+}
+
+impl Reader {
+    /// One line: the sizes first, then what stands at the start, then requests, each with lines
+    /// that say what must stand after it.
+    fn line(&mut self, line: &Line) -> Result<(), Error> {
+        let mut cursor = Cursor::new(line);
+        let Some(script) = &mut self.script else {
+            self.script = Some(head(&mut cursor, line)?);
+            return Ok(());
+        };
+        let sizes = script.sizes;
+        match script.asks.last_mut() {
+            Some(ask) if cursor.take("=") => ask.standing.push(standing(&mut cursor, sizes)?),
+            None if is_start(&cursor) => start(&mut cursor, line, script)?,
+            _ => {
+                let ask = request(&mut cursor, line, script.exact, &mut self.names)?;
+                script.asks.push(ask);
+            }
+        }
+        cursor.end("the line's end")
+    }
+}
+
+/// `memory BYTES entries NUMBER`, or `memory BYTES table BYTES`.
+fn head(cursor: &mut Cursor, line: &Line) -> Result<Script, Error> {
+    if !cursor.take("memory") {
+        return Err(cursor.error(HEAD));
+    }
+    let limit = LIMIT as u64;
+    let memory = cursor.up_to(limit, "the memory's length in bytes")?;
+    let table = match cursor.next("'entries' or 'table'")? {
+        "entries" => ENTRY as u64 * cursor.up_to(limit / 32, "the number of entries")?,
+        "table" => cursor.up_to(limit, "the table's length in bytes")?,
+        _ => return Err(cursor.error_before("'entries' or 'table'")),
+    };
+    cursor.end("the line's end")?;
+    Ok(Script {
+        head: comments(line),
+        sizes: Sizes { table: table as usize, memory: memory as usize },
+        start: Vec::new(),
+        exact: false,
+        asks: Vec::new(),
+        below: Vec::new(),
+    })
+}
+
+fn is_start(cursor: &Cursor) -> bool {
+    matches!(cursor.peek(), Some("exact" | "state" | "entry" | "table" | "at"))
+}
+
+/// A line of the start.
+fn start(cursor: &mut Cursor, line: &Line, script: &mut Script) -> Result<(), Error> {
+    if cursor.take("exact") {
+        script.exact = true;
+        return Ok(());
+    }
+    let place = Cursor::new(line).error_at(2, "'free', 'direct', 'indirect' or 'bytes'");
+    let standing = standing(cursor, script.sizes)?;
+    if let Standing::Entry { line: EntryLine::Fields(_), .. } = standing {
+        return Err(place);
+    }
+    script.start.push(Start { comments: comments(line), standing });
+    Ok(())
+}
