@@ -10,6 +10,7 @@ use std::time::Instant;
 
 use crate::case::Case;
 use crate::limit::{self, Limit};
+use crate::paged::Paged;
 use crate::served::{self, Call};
 
 /// The copies together have about this many bytes, so that they stay in the nearest cache.
@@ -48,22 +49,19 @@ pub struct Batch {
     request: [u8; 64],
     start: Lent,
     copies: Vec<Lent>,
-    memory: Vec<u8>,
-    buffer: Vec<u8>,
+    memory: Paged,
+    buffer: Paged,
     passes: usize,
 }
 
 impl Batch {
     pub fn new(case: Case) -> Batch {
-        let mut request = [0; 64];
-        served::put_words(&mut request, case.request.in_order());
-        let bridge::State { key: [key0, key1], last_number, next_nonce } = case.world.state;
-        let mut state = [0; 32];
-        served::put_words(&mut state, [key0, key1, last_number, next_nonce]);
+        let request = served::request_bytes(&case.request);
+        let state = served::state_bytes(&case.world.state);
         let typed = served::state_of(&state);
         let start = Lent { state, typed, table: case.world.table.clone(), answer: [0; 40] };
-        let memory = case.world.memory.clone();
-        let buffer = vec![0xa5; case.buffer];
+        let memory = Paged::new(&case.world.memory);
+        let buffer = Paged::new(&vec![0xa5; case.buffer]);
         let (copies, passes) = if case.repeats() {
             (1, ACCESSES)
         } else {
@@ -95,7 +93,7 @@ impl Batch {
         self.memory.copy_from_slice(&self.case.world.memory);
         self.buffer.fill(0xa5);
         self.ask(call);
-        (self.copies.clone(), self.memory.clone(), self.buffer.clone())
+        (self.copies.clone(), self.memory.to_vec(), self.buffer.to_vec())
     }
 
     fn restore(&mut self) {

@@ -7,11 +7,17 @@ mod case;
 mod host;
 mod limit;
 mod operations;
+mod paged;
+mod refused;
 mod rounds;
 mod served;
 mod spread;
+mod stack;
 mod table;
+mod thread;
 mod time;
 
+pub use refused::{refused, Refused};
+pub use stack::{stack, Figures, BOUND};
 pub use table::Form;
 pub use time::{time, Options};

@@ -60,6 +60,21 @@ pub fn nothing(
     0
 }
 
+/// The 64 bytes of a request.
+pub fn request_bytes(request: &bridge::Words) -> [u8; 64] {
+    let mut bytes = [0; 64];
+    put_words(&mut bytes, request.in_order());
+    bytes
+}
+
+/// The 32 bytes of a state.
+pub fn state_bytes(state: &bridge::State) -> [u8; 32] {
+    let bridge::State { key: [key0, key1], last_number, next_nonce } = *state;
+    let mut bytes = [0; 32];
+    put_words(&mut bytes, [key0, key1, last_number, next_nonce]);
+    bytes
+}
+
 /// The request that 64 bytes hold.
 pub fn request_of(bytes: &[u8; 64]) -> model::Request {
     let [operation, token, second, task, length, user, permissions, encoding] = words_of(bytes);
@@ -84,10 +99,7 @@ fn words_of<const WORDS: usize, const BYTES: usize>(bytes: &[u8; BYTES]) -> [u64
 
 /// The words are stored, the low byte first.
 #[inline(always)]
-pub fn put_words<const WORDS: usize, const BYTES: usize>(
-    bytes: &mut [u8; BYTES],
-    words: [u64; WORDS],
-) {
+fn put_words<const WORDS: usize, const BYTES: usize>(bytes: &mut [u8; BYTES], words: [u64; WORDS]) {
     for (part, word) in bytes.as_chunks_mut().0.iter_mut().zip(words) {
         *part = word.to_le_bytes();
     }
