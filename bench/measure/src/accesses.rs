@@ -24,8 +24,15 @@ pub fn cases(way: Operation, depth: usize) -> Vec<Case> {
             Operation::Write => Limit::Store(range),
             _ => Limit::Load(range),
         };
-        let name = format!("{} {bytes}", way.name());
-        Case { name, size: depth, world: built.world.clone(), request, buffer: bytes, limit }
+        Case {
+            name: way.name(),
+            of: format!("{bytes} bytes, depth {depth}"),
+            size: bytes,
+            world: built.world.clone(),
+            request,
+            buffer: bytes,
+            limit,
+        }
     };
     SIZES.map(case).into()
 }

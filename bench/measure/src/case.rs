@@ -7,8 +7,10 @@ use crate::limit::Limit;
 
 #[derive(Clone, Debug)]
 pub struct Case {
-    pub name: String,
-    /// How deep below its owner the named entry stands, or another size that the row is about.
+    pub name: &'static str,
+    /// What it is asked of, in words: the line's depth, a length, the table's entries.
+    pub of: String,
+    /// The number among these that grows from row to row, where rows show how cost grows.
     pub size: usize,
     /// What stands before the request.
     pub world: World,

@@ -8,6 +8,7 @@ mod host;
 mod limit;
 mod operations;
 mod paged;
+mod parts;
 mod refused;
 mod rounds;
 mod served;

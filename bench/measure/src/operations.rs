@@ -1,6 +1,7 @@
 //! The operations that are no access, each where it is granted.
 
 use bridge::Request;
+use session::World;
 
 use crate::accesses::DEPTHS;
 use crate::built::{Built, ALL, KEY};
@@ -26,15 +27,15 @@ pub fn of_lines() -> Vec<Case> {
 pub fn reset(entries: usize) -> Case {
     let world = Built::new(entries, MEMORY).world;
     let request = Request::Reset { key: KEY, first_nonce: 1 };
-    case(format!("reset of {entries} entries"), entries, world, request, Limit::ClearTable)
+    let of = format!("{entries} entries");
+    case("reset", of, entries, world, request, Limit::ClearTable)
 }
 
 fn create(length: u64) -> Case {
     let built = Built::new(4, MEMORY);
     let whole = length == MEMORY as u64;
-    let (name, issues) = if whole { ("create, the whole", 1) } else { ("create", 2) };
-    let request = a_create(length);
-    case(name.into(), 0, built.world, request, Limit::Issue(issues))
+    let (of, issues) = if whole { ("the whole", 1) } else { ("a part", 2) };
+    case("create", of.into(), 0, built.world, a_create(length), Limit::Issue(issues))
 }
 
 fn a_create(length: u64) -> Request {
@@ -45,32 +46,32 @@ fn merge() -> Case {
     let mut built = Built::new(4, MEMORY);
     let reply = built.world.serve(&a_create(PART).words(), &mut []);
     let request = Request::Merge { first: reply.first, second: reply.second, task: 0, encoding: 0 };
-    case("merge".into(), 0, built.world, request, Limit::Issue(1))
+    case("merge", "two parts".into(), 0, built.world, request, Limit::Issue(1))
 }
 
 /// A revoke of a segment of so many bytes, the whole of memory.
 pub fn revoke(bytes: usize) -> Case {
     let world = Built::new(4, bytes).world;
     let request = Request::Revoke { token: 0, encoding: 0 };
-    case(format!("revoke of {bytes} bytes"), bytes, world, request, Limit::Renew(0..bytes))
+    case("revoke", format!("{bytes} bytes"), bytes, world, request, Limit::Renew(0..bytes))
 }
 
 fn derive(depth: usize) -> Case {
     let (built, token) = line(depth);
     let request = Request::Derive { token, offset: 0, length: 16, permissions: ALL, encoding: 0 };
-    case("derive".into(), depth, built.world, request, Limit::Issue(1))
+    case("derive", at(depth), depth, built.world, request, Limit::Issue(1))
 }
 
 fn execute_only(depth: usize) -> Case {
     let (built, token) = line(depth);
     let request = Request::ExecuteOnly { token, encoding: 0 };
-    case("execute-only".into(), depth, built.world, request, Limit::Issue(1))
+    case("execute-only", at(depth), depth, built.world, request, Limit::Issue(1))
 }
 
 /// A clone of the entry at the lower end of a line.
 pub fn clone(depth: usize) -> Case {
     let (built, token) = line(depth);
-    case("clone".into(), depth, built.world, Request::Clone { token }, Limit::Call)
+    case("clone", at(depth), depth, built.world, Request::Clone { token }, Limit::Call)
 }
 
 /// A drop that climbs one link at most: the parent has other holders.
@@ -79,7 +80,7 @@ fn drop(depth: usize) -> Case {
     if depth == 0 {
         built.ask(&Request::Clone { token });
     }
-    case("drop".into(), depth, built.world, Request::Drop { token }, Limit::Call)
+    case("drop", at(depth), depth, built.world, Request::Drop { token }, Limit::Call)
 }
 
 /// A drop that climbs to the root: no entry between has another holder.
@@ -89,18 +90,25 @@ pub fn climb(depth: usize) -> Case {
         0 => built.ask(&Request::Clone { token: 0 }),
         _ => built.bare_line(depth),
     };
-    case("drop, to the root".into(), depth, built.world, Request::Drop { token }, Limit::Call)
+    case("drop, to the root", at(depth), depth, built.world, Request::Drop { token }, Limit::Call)
 }
 
 fn lock(depth: usize) -> Case {
     let (built, token) = line(depth);
-    case("lock".into(), depth, built.world, Request::Lock { token, task: TASK }, Limit::Call)
+    case("lock", at(depth), depth, built.world, Request::Lock { token, task: TASK }, Limit::Call)
 }
 
 fn unlock(depth: usize) -> Case {
     let (mut built, token) = line(depth);
     built.ask(&Request::Lock { token, task: TASK });
-    case("unlock".into(), depth, built.world, Request::Unlock { token, task: TASK }, Limit::Call)
+    case(
+        "unlock",
+        at(depth),
+        depth,
+        built.world,
+        Request::Unlock { token, task: TASK },
+        Limit::Call,
+    )
 }
 
 /// A derive that finds its number as the last of the table.
@@ -108,7 +116,8 @@ pub fn search(entries: usize) -> Case {
     let world = Built::full_but_one(entries, MEMORY).world;
     let request =
         Request::Derive { token: 0, offset: 0, length: 16, permissions: ALL, encoding: 0 };
-    case(format!("derive in {entries} entries"), entries, world, request, Limit::Issue(1))
+    let of = format!("{entries} entries");
+    case("derive", of, entries, world, request, Limit::Issue(1))
 }
 
 /// A line of the depth with room for two entries more, and the token of its lower end.
@@ -118,6 +127,17 @@ fn line(depth: usize) -> (Built, u64) {
     (built, token)
 }
 
-fn case(name: String, size: usize, world: session::World, request: Request, limit: Limit) -> Case {
-    Case { name, size, world, request: request.words(), buffer: 0, limit }
+fn at(depth: usize) -> String {
+    format!("depth {depth}")
+}
+
+fn case(
+    name: &'static str,
+    of: String,
+    size: usize,
+    world: World,
+    request: Request,
+    limit: Limit,
+) -> Case {
+    Case { name, of, size, world, request: request.words(), buffer: 0, limit }
 }

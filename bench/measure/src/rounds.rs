@@ -42,8 +42,8 @@ pub fn measure(cases: Vec<Case>, rounds: usize, clock: f64) -> Result<Vec<Measur
     let mut batches: Vec<Batch> = cases.into_iter().map(Batch::new).collect();
     for batch in &mut batches {
         if !batch.agree() {
-            let Case { name, size, .. } = &batch.case;
-            return Err(format!("proved code and model differ at {name} ({size})"));
+            let Case { name, of, .. } = &batch.case;
+            return Err(format!("proved code and model differ at {name} ({of})"));
         }
     }
     let mut measured: Vec<Vec<_>> = vec![Vec::with_capacity(rounds); batches.len()];

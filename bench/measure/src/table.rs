@@ -2,6 +2,9 @@
 
 use std::fmt::Write;
 
+/// So many columns hold words, and stand left; all others hold numbers, and stand right.
+const WORDS: usize = 2;
+
 pub struct Table {
     pub title: String,
     pub columns: Vec<String>,
@@ -28,7 +31,6 @@ impl Table {
         }
     }
 
-    /// The first column stands left, all others right.
     fn text(&self) -> String {
         let widths = self.widths();
         let mut text = format!("{}\n\n", self.title);
@@ -40,8 +42,9 @@ impl Table {
 
     fn markdown(&self) -> String {
         let mut text = format!("{}\n\n", self.title);
-        let marks: Vec<String> =
-            (0..self.columns.len()).map(|at| if at == 0 { "---" } else { "---:" }.into()).collect();
+        let marks: Vec<String> = (0..self.columns.len())
+            .map(|at| if at < WORDS { "---" } else { "---:" }.into())
+            .collect();
         for row in [&self.columns, &marks].into_iter().chain(&self.rows) {
             writeln!(text, "| {} |", row.join(" | ")).expect("text takes text");
         }
@@ -60,12 +63,13 @@ impl Table {
 fn aligned(row: &[String], widths: &[usize]) -> String {
     let mut line = String::new();
     for (at, (cell, width)) in row.iter().zip(widths).enumerate() {
-        match at {
-            0 => write!(line, "{cell:<width$}"),
-            _ => write!(line, "  {cell:>width$}"),
+        match at < WORDS {
+            true => write!(line, "{cell:<width$}  "),
+            false => write!(line, "{cell:>width$}  "),
         }
         .expect("text takes text");
     }
+    line.truncate(line.trim_end().len());
     line.push('\n');
     line
 }

@@ -4,29 +4,26 @@ use std::io::{self, Write};
 
 use crate::batch::Subject;
 use crate::case::Case;
+use crate::host;
+use crate::limit::Limit;
+use crate::parts::{parts, Part};
 use crate::rounds::{clock, measure, Measured};
 use crate::spread::Spread;
 use crate::table::{Form, Table};
-use crate::{accesses, host, operations};
-
-/// Sizes of tables for the search of a free number and for a reset.
-const ENTRIES: [usize; 5] = [4, 16, 64, 256, 1_024];
-/// Sizes of segments for revoke.
-const SEGMENTS: [usize; 8] = [64, 256, 1_024, 4_096, 16_384, 65_536, 262_144, 1_048_576];
-/// Lines for the walk and the climb.
-const LINES: [usize; 6] = [1, 8, 64, 256, 512, 1_020];
 
 const COLUMNS: [&str; 9] = [
-    "",
-    "depth",
+    "operation",
+    "of",
     "proved ns",
     "model ns",
-    "direct ns",
+    "model direct ns",
     "limit ns",
     "limit",
     "proved/model",
     "proved/limit",
 ];
+const GROWTH: [&str; 4] = ["growth", "for each", "proved ns", "model ns"];
+const AIM: [&str; 3] = ["operation", "of", "proved/(memcpy + checks)"];
 
 #[derive(Clone, Copy, Debug)]
 pub struct Options {
@@ -47,58 +44,20 @@ pub fn time(
     progress: &mut dyn FnMut(usize, usize),
 ) -> io::Result<()> {
     let clock = clock();
-    writeln!(out, "{}", host::about(options.rounds, clock))?;
-    let mut aims = Table::new(AIM, &["", "depth", "proved/(memcpy + checks)"]);
+    writeln!(out, "{}\n", host::about(options.rounds, clock))?;
+    let mut growth = Table::new("How cost grows, from each part's first row to its last", &GROWTH);
+    let mut aims = Table::new("4,096 bytes against memcpy and checks (the access of 1 byte)", &AIM);
     let parts = parts();
     for (done, part) in parts.iter().enumerate() {
         progress(done, parts.len());
         let measured = measured(part, options.rounds, clock)?;
         writeln!(out, "{}", table(part.title, &measured).show(options.form))?;
+        growth.rows.extend(grown(part, &measured));
         aims.rows.extend(measured.iter().filter_map(|set| aim(set)));
     }
     progress(parts.len(), parts.len());
+    writeln!(out, "{}", growth.show(options.form))?;
     writeln!(out, "{}", aims.show(options.form))
-}
-
-const AIM: &str = "An access of 4,096 bytes against memcpy of the same bytes plus its checks (the access of 1 byte)";
-
-/// A part of the benchmark: sets of cases, each set measured by turns.
-struct Part {
-    title: &'static str,
-    sets: Vec<Vec<Case>>,
-}
-
-fn parts() -> Vec<Part> {
-    let ways = |way| accesses::DEPTHS.map(|depth| accesses::cases(way, depth)).into();
-    let [read, write, fetch] = accesses::WAYS.map(ways);
-    let one = |cases: Vec<Case>| vec![cases];
-    vec![
-        Part { title: "Operations on a segment", sets: one(operations::of_segments()) },
-        Part { title: "Operations on an entry of any line", sets: one(operations::of_lines()) },
-        Part { title: "Reads", sets: read },
-        Part { title: "Writes", sets: write },
-        Part { title: "Fetches", sets: fetch },
-        Part {
-            title: "The walk: a clone at the end of a line",
-            sets: one(LINES.map(operations::clone).into()),
-        },
-        Part {
-            title: "The climb: a drop that frees a whole line",
-            sets: one(LINES.map(operations::climb).into()),
-        },
-        Part {
-            title: "The search: a derive that finds the last free number",
-            sets: one(ENTRIES.map(operations::search).into()),
-        },
-        Part {
-            title: "Reset by the table's size",
-            sets: one(ENTRIES.map(operations::reset).into()),
-        },
-        Part {
-            title: "Revoke by the segment's size",
-            sets: one(SEGMENTS.map(operations::revoke).into()),
-        },
-    ]
 }
 
 fn measured(part: &Part, rounds: usize, clock: f64) -> io::Result<Vec<Vec<Measured>>> {
@@ -113,29 +72,53 @@ fn table(title: &str, measured: &[Vec<Measured>]) -> Table {
 }
 
 fn row(measured: &Measured) -> Vec<String> {
-    let Case { name, size, limit, .. } = &measured.case;
-    let time = |subject| format!("{:.1}", measured.nanoseconds(subject).median);
-    let ratio = |to| spread(measured.ratio(Subject::Proved, to));
+    let Case { name, of, limit, .. } = &measured.case;
+    let time = |subject| nanoseconds(measured.nanoseconds(subject).median);
+    // An empty call is shown for what the call itself costs; nothing is to come near it.
+    let to_limit = match limit {
+        Limit::Call => "-".into(),
+        _ => spread(measured.ratio(Subject::Proved, Subject::Limit)),
+    };
     vec![
-        name.clone(),
-        size.to_string(),
+        name.to_string(),
+        of.clone(),
         time(Subject::Proved),
         time(Subject::Model),
         time(Subject::Direct),
         time(Subject::Limit),
         limit.name(),
-        ratio(Subject::Model),
-        ratio(Subject::Limit),
+        spread(measured.ratio(Subject::Proved, Subject::Model)),
+        to_limit,
     ]
+}
+
+/// What a link, an entry or a piece more costs, by a part's first row and its last.
+fn grown(part: &Part, measured: &[Vec<Measured>]) -> Option<Vec<String>> {
+    let (unit, size) = part.grows?;
+    let rows = measured.first()?;
+    let (first, last) = (rows.first()?, rows.last()?);
+    let units = (last.case.size - first.case.size) as f64 / size as f64;
+    let cost = |subject| {
+        let more = last.nanoseconds(subject).median - first.nanoseconds(subject).median;
+        format!("{:.2}", more / units)
+    };
+    let (proved, model) = (cost(Subject::Proved), cost(Subject::Model));
+    Some(vec![last.case.name.into(), unit.into(), proved, model])
 }
 
 /// The aim's row of a set of accesses: the last, of 4,096 bytes, and the first, of 1 byte.
 fn aim(set: &[Measured]) -> Option<Vec<String>> {
     let (one, most) = (set.first()?, set.last()?);
-    let Case { name, size, .. } = &most.case;
-    most.case
-        .repeats()
-        .then(|| vec![name.clone(), size.to_string(), spread(most.ratio_beside(one))])
+    let Case { name, of, .. } = &most.case;
+    most.case.repeats().then(|| vec![name.to_string(), of.clone(), spread(most.ratio_beside(one))])
+}
+
+/// With a digit behind the point where that tells anything.
+fn nanoseconds(time: f64) -> String {
+    match time < 1_000.0 {
+        true => format!("{time:.1}"),
+        false => format!("{time:.0}"),
+    }
 }
 
 /// The median, with the quartiles.

@@ -31,8 +31,11 @@ fn every_operation_and_every_access_has_a_row() {
     }
     for way in ["read", "write", "fetch"] {
         for bytes in [1, 12, 64, 512, 4_096] {
-            let row = format!("{way} {bytes} ");
-            assert!(text.lines().filter(|line| line.starts_with(&row)).count() >= 4, "{row}");
+            for depth in [0, 1, 8, 64] {
+                let of = format!("{bytes} bytes, depth {depth} ");
+                let row = |line: &str| line.starts_with(way) && line.contains(&of);
+                assert!(text.lines().any(row), "{way} {of}");
+            }
         }
     }
 }
@@ -40,5 +43,5 @@ fn every_operation_and_every_access_has_a_row() {
 #[test]
 fn markdown_has_a_rule_below_each_head() {
     let text = shown(Form::Markdown);
-    assert!(text.lines().any(|line| line.starts_with("| --- | ---: |")));
+    assert!(text.lines().any(|line| line.starts_with("| --- | --- | ---: |")));
 }
