@@ -32,20 +32,24 @@ pub struct Refused {
 /// A world with its locked segment, and the tokens to ask with.
 struct Locked {
     world: World,
-    tokens: Vec<u64>,
+    /// The tokens of the segment, of its child and of the child's.
+    line: Vec<u64>,
+    /// Tokens that name nothing.
+    strange: Vec<u64>,
     /// The token of the segment behind, which is not locked.
     rest: u64,
 }
 
-/// All refused requests.
+/// All refused requests: of the segment as it was locked, with any token and task; and of other
+/// standings, with the tokens of its line, for the holder and another task.
 pub fn refused() -> Vec<Refused> {
-    let locked = locked();
-    let asked = asked(&locked);
-    let standings = standings(&locked.world);
-    let all = standings.iter().flat_map(|(standing, world)| {
-        asked.iter().filter_map(|(request, buffer)| refused_in(standing, world, request, *buffer))
-    });
-    all.collect()
+    let Locked { world, line, strange, rest } = locked();
+    let any = [line.as_slice(), &strange].concat();
+    let mut all = refused_in("as locked", &world, &asked(&any, &[0, HOLDER, OTHER, 1 << 55], rest));
+    let asked = asked(&line, &[HOLDER, OTHER], rest);
+    let others = standings(&world);
+    all.extend(others.iter().flat_map(|(name, world)| refused_in(name, world, &asked)));
+    all
 }
 
 impl Refused {
@@ -88,11 +92,11 @@ fn locked() -> Locked {
     let another_tag = segment ^ 1 << 46;
     let free_number = 7 << 32;
     let beyond_the_table = 100 << 32;
-    let tokens = vec![segment, child, grandchild, another_tag, free_number, beyond_the_table];
-    Locked { world: built.world, tokens, rest }
+    let strange = vec![another_tag, free_number, beyond_the_table];
+    Locked { world: built.world, line: vec![segment, child, grandchild], strange, rest }
 }
 
-/// The tables and states that the requests are asked of.
+/// Other tables and states that the requests are asked of.
 fn standings(world: &World) -> Vec<(&'static str, World)> {
     let changed = |change: &dyn Fn(&mut World)| {
         let mut world = world.clone();
@@ -103,7 +107,6 @@ fn standings(world: &World) -> Vec<(&'static str, World)> {
         changed(&move |world: &mut World| world.table[32 * number + 25] ^= bit)
     };
     vec![
-        ("as locked", world.clone()),
         ("no free number", changed(&|world| world.table.chunks_mut(32).skip(4).for_each(fill))),
         ("no nonce", changed(&|world| world.state.next_nonce = 1 << 32)),
         ("a broken state", changed(&|world| world.state.last_number = 8)),
@@ -130,11 +133,10 @@ fn count(world: &mut World, number: usize, byte: usize, count: u64) {
 }
 
 /// What is asked, with the buffer's length.
-fn asked(locked: &Locked) -> Vec<(Words, usize)> {
-    let tasks = [0, HOLDER, OTHER, 1 << 55];
-    let pairs = locked.tokens.iter().flat_map(|token| tasks.map(|task| (*token, task)));
+fn asked(tokens: &[u64], tasks: &[u64], rest: u64) -> Vec<(Words, usize)> {
+    let pairs = tokens.iter().flat_map(|token| tasks.iter().map(|task| (*token, *task)));
     let mut asked: Vec<(Words, usize)> =
-        pairs.flat_map(|(token, task)| asked_through(token, task, locked.rest)).collect();
+        pairs.flat_map(|(token, task)| asked_through(token, task, rest)).collect();
     asked.sort_by_key(|(request, buffer)| (request.in_order(), *buffer));
     asked.dedup();
     asked
@@ -198,21 +200,21 @@ fn changes(token: u64, task: u64, rest: u64) -> Vec<Request> {
     ]
 }
 
-/// The request, if the model refuses it there.
-fn refused_in(
-    standing: &'static str,
-    world: &World,
-    request: &Words,
-    buffer: usize,
-) -> Option<Refused> {
-    let mut tried = world.clone();
-    let mut state = served::state_of(&served::state_bytes(&world.state));
-    let typed = served::request_of(&served::request_bytes(request));
-    let mut lent = vec![0xa5; buffer];
-    let answer = model::serve(typed, &mut state, &mut tried.table, &mut tried.memory, &mut lent);
-    let (request, world) = (*request, world.clone());
-    let refusal = answer.refusal;
-    (refusal != 0).then_some(Refused { standing, request, buffer, refusal, world })
+/// Those of the requests that are refused there.
+fn refused_in(standing: &'static str, world: &World, asked: &[(Words, usize)]) -> Vec<Refused> {
+    let kept = |(request, buffer): &(Words, usize)| {
+        let (request, buffer, world) = (*request, *buffer, world.clone());
+        let refusal = refusal_of_model(&world, &request, buffer);
+        (refusal != 0).then_some(Refused { standing, request, buffer, refusal, world })
+    };
+    asked.iter().filter_map(kept).collect()
+}
+
+fn refusal_of_model(world: &World, request: &Words, buffer: usize) -> u64 {
+    let World { state, mut table, mut memory } = world.clone();
+    let mut state = served::state_of(&served::state_bytes(&state));
+    let request = served::request_of(&served::request_bytes(request));
+    model::serve(request, &mut state, &mut table, &mut memory, &mut vec![0xa5; buffer]).refusal
 }
 
 #[cfg(test)]
