@@ -59,7 +59,7 @@ impl Batch {
         let request = served::request_bytes(&case.request);
         let state = served::state_bytes(&case.world.state);
         let typed = served::state_of(&state);
-        let start = Lent { state, typed, table: case.world.table.clone(), answer: [0; 40] };
+        let start = Lent { state, typed, table: case.world.table.clone(), answer: [0xff; 40] };
         let memory = Paged::new(&case.world.memory);
         let buffer = Paged::new(&vec![0xa5; case.buffer]);
         let (copies, passes) = if case.repeats() {
@@ -100,6 +100,7 @@ impl Batch {
         for copy in &mut self.copies {
             copy.state = self.start.state;
             copy.typed = self.start.typed;
+            copy.answer = self.start.answer;
             copy.table.copy_from_slice(&self.start.table);
         }
     }

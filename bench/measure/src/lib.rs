@@ -1,4 +1,9 @@
 //! What the proved northbridge costs: time, stack and instructions.
+//!
+//! - [`time`] measures the proved code, the model and the limits side by side, and writes tables;
+//! - [`stack`] measures how much stack the shallowest call, the deepest walk and the deepest drop
+//!   need, which a test holds to [`BOUND`];
+//! - [`refused`] gives the refused requests whose instructions `bench/instructions` counts.
 
 mod accesses;
 mod batch;
