@@ -17,14 +17,8 @@ fn session_of_fifteen_cases() {
     assert_eq!(bridge.access(&read(65_525, 0), &mut [0; 12]), Err(Refusal::Bounds));
     let child = bridge.ask(&derive(65_535)).unwrap().first;
     assert_eq!(bridge.ask(&derive(65_536)), Err(Refusal::Bounds));
-    let create = Request::Create {
-        token: 0,
-        task: 0,
-        length: 4_096,
-        user: 0,
-        permissions: 4,
-        encoding: 0,
-    };
+    let create =
+        Request::Create { token: 0, task: 0, length: 4_096, user: 0, permissions: 4, encoding: 0 };
     assert_eq!(bridge.ask(&create), Err(Refusal::Standing));
     assert_eq!(bridge.ask(&Request::Lock { token: 0, task: 0 }), Err(Refusal::Request));
     assert!(bridge.ask(&Request::Lock { token: 0, task: 7 }).is_ok());

@@ -1,0 +1,38 @@
+//! Accesses: reads, writes and fetches of several sizes through lines of several depths.
+
+use bridge::{Operation, Words};
+
+use crate::built::Built;
+use crate::case::Case;
+use crate::limit::Limit;
+
+pub const SIZES: [usize; 5] = [1, 12, 64, 512, 4_096];
+pub const DEPTHS: [usize; 4] = [0, 1, 8, 64];
+pub const WAYS: [Operation; 3] = [Operation::Read, Operation::Write, Operation::Fetch];
+
+const MEMORY: usize = 65_536;
+const OFFSET: usize = 8_192;
+
+/// The accesses of all sizes, one way, through a line of one depth.
+pub fn cases(way: Operation, depth: usize) -> Vec<Case> {
+    let mut built = Built::new(depth + 2, MEMORY);
+    let token = built.line(depth)[depth] + OFFSET as u64;
+    let request = Words { operation: way as u64, token, ..Words::default() };
+    let case = |bytes: usize| {
+        let range = OFFSET..OFFSET + bytes;
+        let limit = match way {
+            Operation::Write => Limit::Store(range),
+            _ => Limit::Load(range),
+        };
+        Case {
+            name: way.name(),
+            of: format!("{bytes} bytes, depth {depth}"),
+            size: bytes,
+            world: built.world.clone(),
+            request,
+            buffer: bytes,
+            limit,
+        }
+    };
+    SIZES.map(case).into()
+}

@@ -1,0 +1,179 @@
+//! Batches: a case is asked many times between two looks at the clock.
+//!
+//! A request that changes the table is asked once of each of several equal copies of state and
+//! table; the copies are restored between batches, outside the time taken. An access changes neither
+//! and is asked many times of one copy. Memory is not restored: a write stores the same bytes again
+//! and a revoke zeros what is zero, at the same cost.
+
+use std::hint::black_box;
+use std::time::Instant;
+
+use crate::case::Case;
+use crate::limit::{self, Limit};
+use crate::paged::Paged;
+use crate::served::{self, Call};
+
+/// The copies together have about this many bytes, so that they stay in the nearest cache.
+const COPIED_BYTES: usize = 12_288;
+const MOST_COPIES: usize = 32;
+/// How often an access is asked in a batch.
+const ACCESSES: usize = 32;
+
+/// Who is measured.
+#[derive(Clone, Copy, Debug, PartialEq, Eq)]
+pub enum Subject {
+    Proved,
+    Model,
+    /// The model called as a Rust function, with typed request and state.
+    Direct,
+    Limit,
+}
+
+impl Subject {
+    pub const ALL: [Subject; 4] =
+        [Subject::Proved, Subject::Model, Subject::Direct, Subject::Limit];
+}
+
+/// State, table and answer of one copy; the state also as the model has it.
+#[derive(Clone, PartialEq, Eq)]
+struct Lent {
+    state: [u8; 32],
+    typed: model::State,
+    table: Vec<u8>,
+    answer: [u8; 40],
+}
+
+/// A case that is ready to be asked.
+pub struct Batch {
+    pub case: Case,
+    request: [u8; 64],
+    start: Lent,
+    copies: Vec<Lent>,
+    memory: Paged,
+    buffer: Paged,
+    passes: usize,
+}
+
+impl Batch {
+    pub fn new(case: Case) -> Batch {
+        let request = served::request_bytes(&case.request);
+        let state = served::state_bytes(&case.world.state);
+        let typed = served::state_of(&state);
+        let start = Lent { state, typed, table: case.world.table.clone(), answer: [0xff; 40] };
+        let memory = Paged::new(&case.world.memory);
+        let buffer = Paged::new(&vec![0xa5; case.buffer]);
+        let (copies, passes) = if case.repeats() {
+            (1, ACCESSES)
+        } else {
+            ((COPIED_BYTES / start.table.len()).clamp(1, MOST_COPIES), 1)
+        };
+        Batch { request, copies: vec![start.clone(); copies], start, memory, buffer, passes, case }
+    }
+
+    /// The nanoseconds of one call: the batch runs untimed to warm the caches, then timed.
+    pub fn time(&mut self, subject: Subject, clock: f64) -> f64 {
+        self.restore();
+        self.run(subject);
+        self.restore();
+        let start = Instant::now();
+        self.run(subject);
+        let taken = start.elapsed().as_nanos() as f64;
+        (taken - clock).max(0.0) / (self.passes * self.copies.len()) as f64
+    }
+
+    /// Proved code and model grant the request and leave the same bytes.
+    pub fn agree(&mut self) -> bool {
+        let proved = self.left_by(served::proved);
+        let model = self.left_by(served::model);
+        proved == model && proved.0[0].answer[0] == 0
+    }
+
+    fn left_by(&mut self, call: Call) -> (Vec<Lent>, Vec<u8>, Vec<u8>) {
+        self.restore();
+        self.memory.copy_from_slice(&self.case.world.memory);
+        self.buffer.fill(0xa5);
+        self.ask(call);
+        (self.copies.clone(), self.memory.to_vec(), self.buffer.to_vec())
+    }
+
+    fn restore(&mut self) {
+        for copy in &mut self.copies {
+            copy.state = self.start.state;
+            copy.typed = self.start.typed;
+            copy.answer = self.start.answer;
+            copy.table.copy_from_slice(&self.start.table);
+        }
+    }
+
+    fn run(&mut self, subject: Subject) {
+        match subject {
+            Subject::Proved => self.ask(served::proved),
+            Subject::Model => self.ask(served::model),
+            Subject::Direct => self.ask_directly(),
+            Subject::Limit => self.limit(),
+        }
+    }
+
+    fn ask(&mut self, call: Call) {
+        let call = black_box(call);
+        for _ in 0..self.passes {
+            pass(call, &self.request, &mut self.copies, &mut self.memory, &mut self.buffer);
+        }
+    }
+
+    fn ask_directly(&mut self) {
+        let request = served::request_of(&self.request);
+        for _ in 0..self.passes {
+            direct_pass(request, &mut self.copies, &mut self.memory, &mut self.buffer);
+        }
+    }
+
+    fn limit(&mut self) {
+        for _ in 0..self.passes {
+            self.limit_pass();
+        }
+    }
+
+    fn limit_pass(&mut self) {
+        let mut message = [0; 40];
+        message[..32].copy_from_slice(&self.start.table[..32]);
+        let key = self.case.world.state.key;
+        for copy in &mut self.copies {
+            match &self.case.limit {
+                Limit::Load(range) => limit::copy(&mut self.buffer, &self.memory[range.clone()]),
+                Limit::Store(range) => limit::copy(&mut self.memory[range.clone()], &self.buffer),
+                Limit::ClearTable => limit::clear(&mut copy.table),
+                Limit::Renew(range) => {
+                    limit::clear(&mut self.memory[range.clone()]);
+                    limit::issue(key, &message, 1);
+                }
+                Limit::Issue(times) => limit::issue(key, &message, *times),
+                Limit::Call => {
+                    let Lent { state, table, answer, .. } = copy;
+                    let (memory, buffer) = (&mut self.memory, &mut self.buffer);
+                    served::nothing(&self.request, state, table, memory, buffer, answer);
+                }
+            }
+        }
+    }
+}
+
+fn pass(call: Call, request: &[u8], copies: &mut [Lent], memory: &mut [u8], buffer: &mut [u8]) {
+    for copy in copies {
+        black_box(call(
+            request,
+            &mut copy.state,
+            &mut copy.table,
+            memory,
+            buffer,
+            &mut copy.answer,
+        ));
+    }
+}
+
+fn direct_pass(request: model::Request, copies: &mut [Lent], memory: &mut [u8], buffer: &mut [u8]) {
+    for copy in copies {
+        let request = black_box(request);
+        black_box(model::serve(request, &mut copy.typed, &mut copy.table, memory, buffer));
+    }
+}

@@ -1,0 +1,123 @@
+//! How much stack a call of the proved code needs.
+
+use std::ffi::c_void;
+use std::fmt;
+use std::hint::black_box;
+use std::io;
+use std::ptr;
+
+use bridge::{Request, Words};
+use session::World;
+
+use crate::built::Built;
+use crate::served::{self, Call};
+use crate::thread::Stack;
+
+/// The deepest line: a table has 1,024 entries, and one of them is the owner.
+pub const DEEPEST: usize = 1_023;
+
+/// No call may need more stack than this. A drop calls itself once for each link that it climbs: 320
+/// bytes for each of 1,023 links, and 4,096 for all that stands above them.
+pub const BOUND: usize = DEEPEST * 320 + 4_096;
+
+/// The stack to measure on, well above the bound.
+const SIZE: usize = 4 << 20;
+
+/// What the calls need, in bytes below the frame of their caller: arguments and return address too.
+#[derive(Clone, Copy, Debug, PartialEq, Eq)]
+pub struct Figures {
+    /// A thread that calls a function that does nothing. What needs less cannot be told from it.
+    pub floor: usize,
+    /// A request that is refused before the table is looked at.
+    pub shallowest: usize,
+    /// A read through a line of 1,023 links.
+    pub walk: usize,
+    /// A drop that climbs 1,023 links and frees each entry below the owner.
+    pub drop: usize,
+}
+
+impl fmt::Display for Figures {
+    fn fmt(&self, out: &mut fmt::Formatter<'_>) -> fmt::Result {
+        writeln!(out, "Stack of a call of the proved code, in bytes below its caller's frame:")?;
+        writeln!(out, "  {:>7}  shallowest call, refused at once", self.shallowest)?;
+        writeln!(out, "  {:>7}  deepest walk, a read through {DEEPEST} links", self.walk)?;
+        writeln!(out, "  {:>7}  deepest drop, a climb of {DEEPEST} links", self.drop)?;
+        writeln!(out, "  {BOUND:>7}  the bound that a test holds them to")?;
+        write!(out, "A call that does nothing shows {}; less cannot be told apart.", self.floor)
+    }
+}
+
+/// Measures the stack of the proved code.
+pub fn stack() -> io::Result<Figures> {
+    let mut stack = Stack::new(SIZE)?;
+    let unknown = Words { operation: 99, ..Words::default() };
+    let start = Built::new(4, 4_096).world;
+    let (deep, token) = deepest();
+    let read = Request::Read { token, task: 0 }.words();
+    let (bare, bare_token) = deepest_bare();
+    let drop = Request::Drop { token: bare_token }.words();
+    Ok(Figures {
+        floor: used(&mut stack, served::nothing, &start, unknown, 0)?,
+        shallowest: used(&mut stack, served::proved, &start, unknown, 1)?,
+        walk: used(&mut stack, served::proved, &deep, read, 0)?,
+        drop: used(&mut stack, served::proved, &bare, drop, 0)?,
+    })
+}
+
+fn deepest() -> (World, u64) {
+    let mut built = Built::new(DEEPEST + 1, 65_536);
+    let token = built.line(DEEPEST)[DEEPEST];
+    (built.world, token)
+}
+
+fn deepest_bare() -> (World, u64) {
+    let mut built = Built::new(DEEPEST + 1, 65_536);
+    let token = built.bare_line(DEEPEST);
+    (built.world, token)
+}
+
+/// A call, and what it tells.
+struct Job {
+    call: Call,
+    request: [u8; 64],
+    state: [u8; 32],
+    world: World,
+    buffer: [u8; 1],
+    answer: [u8; 40],
+    /// An address in the caller's frame.
+    frame: usize,
+}
+
+/// The bytes of stack below the caller's frame that one call uses. Its refusal must be the given one.
+fn used(
+    stack: &mut Stack,
+    call: Call,
+    world: &World,
+    request: Words,
+    refusal: u8,
+) -> io::Result<usize> {
+    let mut job = Job {
+        call,
+        request: served::request_bytes(&request),
+        state: served::state_bytes(&world.state),
+        world: world.clone(),
+        buffer: [0],
+        answer: [0; 40],
+        frame: 0,
+    };
+    let lowest = stack.run(routine, &mut job)?;
+    if job.answer[0] != refusal {
+        return Err(io::Error::other(format!("refusal {}, not {refusal}", job.answer[0])));
+    }
+    Ok(job.frame - lowest)
+}
+
+extern "C" fn routine(job: *mut c_void) -> *mut c_void {
+    // The thread's starter lends a job to it alone, and waits for its end.
+    let job = unsafe { &mut *job.cast::<Job>() };
+    let mark = 0u8;
+    job.frame = ptr::from_ref(black_box(&mark)) as usize;
+    let World { table, memory, .. } = &mut job.world;
+    (job.call)(&job.request, &mut job.state, table, memory, &mut job.buffer, &mut job.answer);
+    ptr::null_mut()
+}
