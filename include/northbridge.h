@@ -1,8 +1,8 @@
 /*
  * The northbridge: a capability machine over memory and tables that the caller lends.
  *
- * The library keeps nothing between two calls, allocates nothing, does no input or output, and calls nothing but memset. What it returns
- * and each byte that it leaves in the slices lent to it is fixed, whatever they hold, by the definition `exported` in
+ * The library keeps nothing between two calls, allocates nothing, does no input or output, and calls nothing but memset and memmove.
+ * What it returns and each byte that it leaves in the slices lent to it is fixed, whatever they hold, by the definition `exported` in
  * crates/northbridge/specs/Exported.antt, which the code is proved to meet.
  */
 #ifndef NORTHBRIDGE_H
