@@ -1,5 +1,9 @@
 //! Sessions: what stands at the start, and the requests in their order.
 
+pub mod entry;
+pub mod text;
+pub mod token;
+
 use bridge::{Reply, State, Words};
 
 /// What a request works on: the state, the table and the memory.

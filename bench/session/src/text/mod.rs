@@ -1,0 +1,40 @@
+//! Sessions as text: one request a line, with comments, names for tokens, and expected results.
+//!
+//! docs/SESSIONS.md describes the format.
+
+mod bytes;
+mod change;
+mod cursor;
+mod error;
+mod lines;
+mod parse;
+mod print;
+mod script;
+mod words;
+
+pub use change::changes;
+pub use error::Error;
+pub use parse::parse;
+pub use print::{print_script, token_text};
+pub use script::{
+    Ask, Comments, EntryLine, Expected, Names, Script, Standing, StatedState, Unresolved, Word,
+};
+
+use crate::Session;
+use bridge::Reply;
+
+/// The byte that fills a read's buffer where the text gives its length only.
+pub const FILL: u8 = 0xA5;
+
+/// A session as text, without results. Parsing gives the same session.
+pub fn print(session: &Session) -> String {
+    print_script(&Script::of(session))
+}
+
+/// A session as text with the replies that are expected, one for each request; tokens that they give
+/// are named. Parsing gives the same session.
+pub fn print_with(session: &Session, replies: &[Reply]) -> String {
+    let mut script = Script::of(session);
+    script.name_tokens(replies);
+    print_script(&script)
+}

@@ -1,0 +1,294 @@
+//! Script to text.
+
+use super::parse::FIELDS;
+use super::script::{Ask, EntryLine, Expected, Script, Standing, StatedState, Word};
+use super::{bytes, words, FILL};
+use crate::entry::{self, Field, ENTRY};
+use crate::token::PARENT_ENCODING;
+use crate::World;
+use bridge::{Operation, State};
+use std::fmt::Write;
+
+pub use super::words::token_text;
+
+/// Requests longer than this do not push the results of the others to the right.
+const WIDEST: usize = 64;
+
+/// A script as text. Parsing gives the same script.
+pub fn print_script(script: &Script) -> String {
+    let mut text = String::new();
+    push_lines(&mut text, &script.above);
+    push_world(&mut text, &script.world);
+    if script.exact {
+        text.push_str("exact\n");
+    }
+    let requests: Vec<String> = script.asks.iter().map(request_text).collect();
+    let short = requests.iter().map(String::len).filter(|length| *length <= WIDEST);
+    let width = short.max().unwrap_or(0);
+    for (ask, request) in script.asks.iter().zip(requests) {
+        push_ask(&mut text, ask, &request, width);
+    }
+    push_lines(&mut text, &script.below);
+    text
+}
+
+fn push_lines(text: &mut String, lines: &[String]) {
+    for line in lines {
+        text.push_str(line);
+        text.push('\n');
+    }
+}
+
+/// The sizes, and all that is not zero at the start.
+fn push_world(text: &mut String, world: &World) {
+    let (memory, table) = (world.memory.len(), world.table.len());
+    let sizes = match table % ENTRY {
+        0 => format!("memory {memory} entries {}", table / ENTRY),
+        _ => format!("memory {memory} table {table}"),
+    };
+    text.push_str(&sizes);
+    text.push('\n');
+    let zeros = World::zeros(table, memory);
+    if world.state != State::default() {
+        push_standing(text, "", &Standing::State(StatedState::all(&world.state)));
+    }
+    for line in super::changes(&World { state: world.state, ..zeros }, world) {
+        push_standing(text, "", &line);
+    }
+}
+
+fn push_ask(text: &mut String, ask: &Ask, request: &str, width: usize) {
+    push_lines(text, &ask.comments.above);
+    text.push_str(request);
+    if let Some(expected) = &ask.expected {
+        let blanks = width.saturating_sub(request.len());
+        let _ = write!(text, "{:blanks$} -> {}", "", expected_text(expected));
+    }
+    if let Some(comment) = &ask.comments.behind {
+        let _ = write!(text, "  # {comment}");
+    }
+    text.push('\n');
+    for line in &ask.standing {
+        push_standing(text, "= ", line);
+    }
+}
+
+/// The request with its words; those that are zero are left out unless the operation lives by them.
+fn request_text(ask: &Ask) -> String {
+    let operation = Operation::of(ask.words.operation);
+    let mut text = match operation {
+        Some(operation) => operation.name().to_string(),
+        None => format!("operation {}", words::number_text(ask.words.operation)),
+    };
+    text.push_str(&leading(ask, operation));
+    let sized = matches!(operation, Some(Operation::Create | Operation::Derive));
+    let mut push = |name: &str, value: u64, always: bool| {
+        if always || value != 0 {
+            let _ = write!(text, " {name} {}", words::number_text(value));
+        }
+    };
+    let reset = operation == Some(Operation::Reset);
+    push(if reset { "nonce" } else { "task" }, ask.words.task, reset);
+    push("length", ask.words.length, sized);
+    push("user", ask.words.user, false);
+    if sized || ask.words.permissions != 0 {
+        let _ = write!(text, " permissions {}", words::permissions_text(ask.words.permissions));
+    }
+    if ask.words.encoding != 0 {
+        let _ = write!(text, " encoding {}", words::number_text(ask.words.encoding));
+    }
+    text + &trailing_buffer(ask, operation)
+}
+
+/// The tokens, and what stands behind them without a name.
+fn leading(ask: &Ask, operation: Option<Operation>) -> String {
+    let (token, second) = (word_text(&ask.token), word_text(&ask.second));
+    let no_second = ask.second == Word::Number(0);
+    let other = if no_second { String::new() } else { format!(" second {second}") };
+    match operation {
+        Some(Operation::Reset) => {
+            format!(" key {} {}", key_text(&ask.token), key_text(&ask.second))
+        }
+        Some(Operation::Merge) => format!(" {token} {second}"),
+        Some(Operation::Derive) if no_second => format!(" {token}"),
+        Some(Operation::Derive) => format!(" {token} offset {}", key_text(&ask.second)),
+        Some(Operation::Read | Operation::Fetch) if is_filled(ask) => {
+            format!(" {token} {}{other}", ask.buffer.len())
+        }
+        Some(Operation::Write) => format!(" {token} {}{other}", bytes::text(&ask.buffer)),
+        Some(_) => format!(" {token}{other}"),
+        None => match ask.token == Word::Number(0) {
+            true => other,
+            false => format!(" token {token}{other}"),
+        },
+    }
+}
+
+fn is_filled(ask: &Ask) -> bool {
+    ask.buffer.iter().all(|byte| *byte == FILL)
+}
+
+/// The buffer, where it does not stand in front.
+fn trailing_buffer(ask: &Ask, operation: Option<Operation>) -> String {
+    let in_front = match operation {
+        Some(Operation::Read | Operation::Fetch) => is_filled(ask),
+        Some(Operation::Write) => true,
+        _ => ask.buffer.is_empty(),
+    };
+    if in_front {
+        String::new()
+    } else {
+        format!(" buffer {}", bytes::text(&ask.buffer))
+    }
+}
+
+fn word_text(word: &Word) -> String {
+    match word {
+        Word::Number(number) => token_text(*number, 0),
+        Word::Name { name, encoding: None, offset } => {
+            format!("{name}{}", words::suffixes(0, 0, *offset))
+        }
+        Word::Name { name, encoding: Some(encoding), offset } => {
+            format!("{name}{}", words::suffixes(*encoding, 4, *offset))
+        }
+    }
+}
+
+/// A word that is no token, though it stands in a token's place.
+fn key_text(word: &Word) -> String {
+    match word {
+        Word::Number(number) => words::number_text(*number),
+        named => word_text(named),
+    }
+}
+
+fn expected_text(expected: &Expected) -> String {
+    let mut text = words::number_text(expected.refusal);
+    match expected.place {
+        Some(1) => text.push_str(" named"),
+        Some(2) => text.push_str(" ancestor"),
+        _ => {}
+    }
+    text.push_str(&tokens_text(expected));
+    if let Some(number) = expected.number {
+        let _ = write!(text, " number {}", words::number_text(number));
+    }
+    if let Some(buffer) = &expected.buffer {
+        let _ = write!(text, " buffer {}", bytes::text(buffer));
+    }
+    text
+}
+
+/// The named tokens behind `as`, the others by their place.
+fn tokens_text(expected: &Expected) -> String {
+    let [first, second] = &expected.names;
+    let mut text = String::new();
+    if first.is_some() || second.is_some() {
+        text.push_str(" as ");
+        text.push_str(&name_text(first, expected.first));
+    }
+    if second.is_some() {
+        text.push(' ');
+        text.push_str(&name_text(second, expected.second));
+    }
+    let unnamed = [("first", first, expected.first), ("second", second, expected.second)];
+    for (place, name, token) in unnamed {
+        if let (None, Some(token)) = (name, token) {
+            let _ = write!(text, " {place} {}", token_text(token, 0));
+        }
+    }
+    text
+}
+
+fn name_text(name: &Option<String>, token: Option<u64>) -> String {
+    match (name, token) {
+        (Some(name), Some(token)) => format!("{name}={}", token_text(token, 0)),
+        (Some(name), None) => name.clone(),
+        (None, _) => "-".to_string(),
+    }
+}
+
+/// A line on what stands, or several for long bytes.
+fn push_standing(text: &mut String, mark: &str, standing: &Standing) {
+    match standing {
+        Standing::State(state) => {
+            let _ = writeln!(text, "{mark}state{}", state_text(state));
+        }
+        Standing::Entry { number, line } => {
+            let _ = writeln!(text, "{mark}entry {number}{}", entry_text(line));
+        }
+        Standing::Table { at, bytes } => push_placed(text, &format!("{mark}table"), *at, bytes),
+        Standing::Memory { at, bytes } => push_placed(text, &format!("{mark}at"), *at, bytes),
+    }
+}
+
+fn push_placed(text: &mut String, name: &str, at: usize, bytes: &[u8]) {
+    for (before, line) in bytes::lines(bytes) {
+        let _ = writeln!(text, "{name} {} {line}", at + before);
+    }
+}
+
+fn state_text(state: &StatedState) -> String {
+    let mut text = String::new();
+    if let Some([key0, key1]) = state.key.map(|key| key.map(words::number_text)) {
+        let _ = write!(text, " key {key0} {key1}");
+    }
+    if let Some(last) = state.last_number {
+        let _ = write!(text, " last {}", words::number_text(last));
+    }
+    if let Some(next) = state.next_nonce {
+        let _ = write!(text, " nonce {}", words::number_text(next));
+    }
+    text
+}
+
+/// An entry by its fields, if its type has any; those of little interest are left out at zero.
+fn entry_text(line: &EntryLine) -> String {
+    let whole = match line {
+        EntryLine::Whole(whole) => whole,
+        EntryLine::Fields(fields) => {
+            return fields.iter().map(|(field, value)| field_text(*field, *value)).collect()
+        }
+    };
+    let (kind, places) = (entry::kind(whole), entry::places(entry::kind(whole)));
+    if *whole == [0; ENTRY] {
+        return " free".to_string();
+    }
+    let name = match kind {
+        entry::DIRECT => " direct",
+        entry::INDIRECT => " indirect",
+        _ => return format!(" bytes {}", bytes::text(whole)),
+    };
+    let fields = places.iter().map(|place| (place.0, entry::get(whole, place.0)));
+    let shown = fields.filter(|(field, value)| *value != 0 || always_shown(*field));
+    name.to_string()
+        + &shown.map(|(field, value)| whole_field_text(field, value)).collect::<String>()
+}
+
+fn always_shown(field: Field) -> bool {
+    use Field::*;
+    matches!(field, Base | Length | Parent | Count | Permissions | Tag | Nonce)
+}
+
+/// In a whole entry a flag stands alone.
+fn whole_field_text(field: Field, value: u64) -> String {
+    match field {
+        Field::Locked | Field::Lockable | Field::Cow => format!(" {}", field_name(field)),
+        _ => field_text(field, value),
+    }
+}
+
+fn field_text(field: Field, value: u64) -> String {
+    let value = match field {
+        Field::Permissions => words::permissions_text(value),
+        Field::Parent => token_text(value, PARENT_ENCODING),
+        Field::Tag => format!("{value:#06x}"),
+        _ => words::number_text(value),
+    };
+    format!(" {} {value}", field_name(field))
+}
+
+/// The word of a field.
+pub fn field_name(field: Field) -> &'static str {
+    FIELDS.iter().find(|(_, other)| *other == field).map_or("", |(name, _)| name)
+}

@@ -1,0 +1,304 @@
+//! A script: a session as it is written, with names, expected results and comments.
+
+use std::collections::HashMap;
+
+use super::words;
+use crate::entry::{self, Field};
+use crate::token::Token;
+use crate::{Session, Step, World};
+use bridge::{Operation, Reply, State, Words};
+
+/// A start, and requests with what is expected of them.
+#[derive(Clone, Debug, PartialEq, Eq)]
+pub struct Script {
+    /// Comments and blank lines above the first line.
+    pub above: Vec<String>,
+    pub world: World,
+    /// Whether everything is fixed: what no line states is as it was before the request, and words of
+    /// an answer that are not stated are 0.
+    pub exact: bool,
+    pub asks: Vec<Ask>,
+    /// Comments and blank lines at the end.
+    pub below: Vec<String>,
+}
+
+/// Comments and blank lines above a line, and a comment behind it.
+#[derive(Clone, Debug, Default, PartialEq, Eq)]
+pub struct Comments {
+    pub above: Vec<String>,
+    pub behind: Option<String>,
+}
+
+/// One request with its buffer, the answer expected, and what must stand after it.
+#[derive(Clone, Debug, PartialEq, Eq)]
+pub struct Ask {
+    /// Where it stands in its file; 0 if it comes from none.
+    pub line: usize,
+    pub comments: Comments,
+    /// The words; the token and the second word are overlaid by the next two.
+    pub words: Words,
+    pub token: Word,
+    pub second: Word,
+    pub buffer: Vec<u8>,
+    pub expected: Option<Expected>,
+    pub standing: Vec<Standing>,
+}
+
+/// A word that may be a token by its name.
+#[derive(Clone, Debug, PartialEq, Eq)]
+pub enum Word {
+    Number(u64),
+    /// The token of that name, in another encoding if one is given, with an offset added.
+    Name {
+        name: String,
+        encoding: Option<u64>,
+        offset: u64,
+    },
+}
+
+/// The answer expected. What is none is not stated.
+#[derive(Clone, Debug, Default, PartialEq, Eq)]
+pub struct Expected {
+    pub refusal: u64,
+    pub place: Option<u64>,
+    pub first: Option<u64>,
+    pub second: Option<u64>,
+    pub number: Option<u64>,
+    pub buffer: Option<Vec<u8>>,
+    /// Names for the first and the second token.
+    pub names: [Option<String>; 2],
+}
+
+/// Something that must stand after a request.
+#[derive(Clone, Debug, PartialEq, Eq)]
+pub enum Standing {
+    State(StatedState),
+    Entry {
+        number: usize,
+        line: EntryLine,
+    },
+    /// Bytes of the table that are given by their place.
+    Table {
+        at: usize,
+        bytes: Vec<u8>,
+    },
+    Memory {
+        at: usize,
+        bytes: Vec<u8>,
+    },
+}
+
+/// The parts of a state that are stated.
+#[derive(Clone, Copy, Debug, Default, PartialEq, Eq)]
+pub struct StatedState {
+    pub key: Option<[u64; 2]>,
+    pub last_number: Option<u64>,
+    pub next_nonce: Option<u64>,
+}
+
+/// A whole entry, or some of its fields.
+#[derive(Clone, Debug, PartialEq, Eq)]
+pub enum EntryLine {
+    Whole(entry::Bytes),
+    Fields(Vec<(Field, u64)>),
+}
+
+/// Tokens by their names.
+pub type Names = HashMap<String, u64>;
+
+/// Why a name stands for no token.
+#[derive(Clone, Debug, PartialEq, Eq)]
+pub enum Unresolved {
+    /// No request has given it.
+    NotGiven(String),
+    /// Its encoding has no room for the number or the offset.
+    DoesNotFit(String),
+}
+
+impl Word {
+    pub fn resolve(&self, names: &Names) -> Result<u64, Unresolved> {
+        let (name, encoding, offset) = match self {
+            Word::Number(number) => return Ok(*number),
+            Word::Name { name, encoding, offset } => (name, *encoding, *offset),
+        };
+        let given = names.get(name).ok_or_else(|| Unresolved::NotGiven(name.clone()))?;
+        let token = Token::unpack(*given);
+        let offset = token.offset.checked_add(offset);
+        let packed = offset.and_then(|offset| {
+            Token { encoding: encoding.unwrap_or(token.encoding), offset, ..token }.pack().ok()
+        });
+        packed.ok_or_else(|| Unresolved::DoesNotFit(name.clone()))
+    }
+}
+
+impl StatedState {
+    pub fn all(state: &State) -> StatedState {
+        let State { key, last_number, next_nonce } = *state;
+        let (last_number, next_nonce) = (Some(last_number), Some(next_nonce));
+        StatedState { key: Some(key), last_number, next_nonce }
+    }
+
+    /// What differs from an earlier state.
+    pub fn since(before: &State, now: &State) -> StatedState {
+        let all = StatedState::all(now);
+        StatedState {
+            key: all.key.filter(|key| *key != before.key),
+            last_number: all.last_number.filter(|last| *last != before.last_number),
+            next_nonce: all.next_nonce.filter(|next| *next != before.next_nonce),
+        }
+    }
+
+    pub fn put(&self, state: &mut State) {
+        state.key = self.key.unwrap_or(state.key);
+        state.last_number = self.last_number.unwrap_or(state.last_number);
+        state.next_nonce = self.next_nonce.unwrap_or(state.next_nonce);
+    }
+}
+
+impl Ask {
+    pub fn of(step: &Step) -> Ask {
+        Ask {
+            line: 0,
+            comments: Comments::default(),
+            words: step.request,
+            token: Word::Number(step.request.token),
+            second: Word::Number(step.request.second),
+            buffer: step.buffer.clone(),
+            expected: None,
+            standing: Vec::new(),
+        }
+    }
+
+    /// The request's words, with the tokens that the names stand for.
+    pub fn resolve(&self, names: &Names) -> Result<Words, Unresolved> {
+        let (token, second) = (self.token.resolve(names)?, self.second.resolve(names)?);
+        Ok(Words { token, second, ..self.words })
+    }
+
+    /// Adds the names that this request's answer gives. A name whose token is stated stands for that
+    /// one, so that the session is the same whoever answers; another one for what was given.
+    pub fn add_names(&self, given: Option<&Reply>, names: &mut Names) {
+        let Some(expected) = &self.expected else {
+            return;
+        };
+        let given = given.filter(|reply| reply.refusal == 0);
+        let tokens = [
+            expected.first.or(given.map(|reply| reply.first)),
+            expected.second.or(given.map(|reply| reply.second)),
+        ];
+        for (name, token) in expected.names.iter().zip(tokens) {
+            if let (Some(name), Some(token)) = (name, token) {
+                names.insert(name.clone(), token);
+            }
+        }
+    }
+}
+
+impl Script {
+    pub fn of(session: &Session) -> Script {
+        Script {
+            above: Vec::new(),
+            world: session.world.clone(),
+            exact: false,
+            asks: session.steps.iter().map(Ask::of).collect(),
+            below: Vec::new(),
+        }
+    }
+
+    /// The session, if every name that is used has its token stated.
+    pub fn session(&self) -> Result<Session, Unresolved> {
+        let mut names = Names::new();
+        let mut steps = Vec::new();
+        for ask in &self.asks {
+            steps.push(Step { request: ask.resolve(&names)?, buffer: ask.buffer.clone() });
+            ask.add_names(None, &mut names);
+        }
+        Ok(Session { world: self.world.clone(), steps })
+    }
+
+    /// Expects these replies, names the tokens that they give, and uses the names from there on.
+    pub fn name_tokens(&mut self, replies: &[Reply]) {
+        let mut given: Vec<(String, u64)> = Vec::new();
+        for (at, (ask, reply)) in self.asks.iter_mut().zip(replies).enumerate() {
+            ask.use_names(&given);
+            let names = token_names(ask.words.operation, at + 1);
+            ask.expect(reply, names);
+            let expected = ask.expected.iter();
+            given.extend(expected.flat_map(Expected::named_tokens));
+        }
+    }
+}
+
+impl Ask {
+    /// Writes the tokens by the names that were given last for them.
+    fn use_names(&mut self, given: &[(String, u64)]) {
+        let Ok(words) = self.resolve(&Names::new()) else {
+            return;
+        };
+        let operation = Operation::of(self.words.operation);
+        let has_token = !matches!(operation, None | Some(Operation::Reset));
+        if has_token {
+            self.token = named(words.token, given);
+        }
+        if operation == Some(Operation::Merge) {
+            self.second = named(words.second, given);
+        }
+    }
+
+    fn expect(&mut self, reply: &Reply, names: [Option<String>; 2]) {
+        let granted = reply.refusal == 0;
+        let [first, second] = names.map(|name| name.filter(|_| granted));
+        let second = second.filter(|_| reply.second != 0);
+        let stated = |word: u64, name: &Option<String>| {
+            Some(word).filter(|word| *word != 0 || name.is_some())
+        };
+        self.expected = Some(Expected {
+            refusal: reply.refusal,
+            place: Some(reply.place).filter(|place| *place != 0),
+            first: stated(reply.first, &first),
+            second: stated(reply.second, &second),
+            number: Some(reply.dropped).filter(|number| *number != 0),
+            buffer: None,
+            names: [first, second],
+        });
+    }
+}
+
+impl Expected {
+    fn named_tokens(&self) -> Vec<(String, u64)> {
+        let tokens = [self.first, self.second];
+        let both = self.names.iter().cloned().zip(tokens);
+        both.filter_map(|(name, token)| Some((name?, token?))).collect()
+    }
+}
+
+/// The names that an operation's tokens get: of its answer's kind, with the request's number.
+fn token_names(operation: u64, at: usize) -> [Option<String>; 2] {
+    let name = |kind: &str| Some(format!("{kind}{at}"));
+    match Operation::of(operation) {
+        Some(Operation::Create) => [name("part"), name("rest")],
+        Some(Operation::Merge) => [name("whole"), None],
+        Some(Operation::Derive) => [name("child"), None],
+        Some(Operation::ExecuteOnly) => [name("code"), None],
+        Some(Operation::Revoke) => [name("fresh"), None],
+        _ => [None, None],
+    }
+}
+
+/// A token by the name that was given last for the same entry.
+fn named(word: u64, given: &[(String, u64)]) -> Word {
+    let token = Token::unpack(word);
+    let same = |given: &&(String, u64)| {
+        Token::unpack(given.1).same(&token)
+            && !words::is_root(word)
+            && Token::unpack(given.1).offset == 0
+    };
+    match given.iter().rev().find(same) {
+        Some((name, given)) => Word::Name {
+            name: name.clone(),
+            encoding: Some(token.encoding).filter(|own| *own != Token::unpack(*given).encoding),
+            offset: token.offset,
+        },
+        None => Word::Number(word),
+    }
+}

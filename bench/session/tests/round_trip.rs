@@ -1,0 +1,76 @@
+//! What is printed is read again as the same session.
+
+mod common;
+use common::Dice;
+use session::text::{parse, print, print_with};
+use session::{Session, World};
+
+fn read_again(text: &str) -> Session {
+    let script = parse(text).unwrap_or_else(|error| panic!("{error}\n{text}"));
+    script.session().unwrap_or_else(|error| panic!("{error:?}\n{text}"))
+}
+
+#[test]
+fn random_sessions() {
+    let mut dice = Dice(1);
+    for _ in 0..3_000 {
+        let session = dice.session();
+        let text = print(&session);
+        assert!(read_again(&text) == session, "{text}");
+    }
+}
+
+#[test]
+fn random_sessions_with_random_replies() {
+    let mut dice = Dice(2);
+    for _ in 0..3_000 {
+        let session = dice.session();
+        let replies: Vec<bridge::Reply> = (0..session.steps.len())
+            .map(|_| bridge::Reply {
+                refusal: dice.below(2) * dice.below(12),
+                place: dice.below(3),
+                first: dice.some_word(),
+                second: dice.some_word(),
+                dropped: dice.below(2),
+            })
+            .collect();
+        let text = print_with(&session, &replies);
+        assert!(read_again(&text) == session, "{text}");
+    }
+}
+
+/// Names are used where tokens come back, and stand for the same words.
+#[test]
+fn sessions_as_served() {
+    let mut dice = Dice(3);
+    let mut named = 0;
+    for _ in 0..300 {
+        let mut session = Session { world: World::zeros(8 * 32, 4096), steps: Vec::new() };
+        let (mut world, mut replies, mut tokens) = (session.world.clone(), Vec::new(), vec![0]);
+        for at in 0..12 {
+            let mut step = dice.step();
+            step.request.operation = if at == 0 { 0 } else { 1 + dice.below(12) };
+            step.request.token = tokens[dice.below(tokens.len() as u64) as usize];
+            step.request.second = tokens[dice.below(tokens.len() as u64) as usize];
+            step.request.task = if at == 0 { 1 } else { 0 };
+            (step.request.length, step.request.encoding) = (dice.below(300), dice.below(4));
+            (step.request.user, step.request.permissions) = (dice.below(2), 7);
+            replies.push(world.serve(&step.request, &mut step.buffer.clone()));
+            tokens.extend([replies[at].first, replies[at].second]);
+            session.steps.push(step);
+        }
+        let text = print_with(&session, &replies);
+        assert!(read_again(&text) == session, "{text}");
+        named += text.matches("rest").count();
+    }
+    assert!(named > 100);
+}
+
+#[test]
+fn the_largest_memory() {
+    let mut world = World::zeros(1024 * 32, (1 << 24) + 1);
+    world.memory[1 << 24] = 7;
+    world.memory[..100_000].copy_from_slice(&Dice(4).bytes(100_000));
+    let session = Session { world, steps: Vec::new() };
+    assert!(read_again(&print(&session)) == session);
+}
