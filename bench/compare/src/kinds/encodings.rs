@@ -28,7 +28,8 @@ fn variants(player: &mut Player, token: u64) {
         let wrapped = number + player.dice.one_of(&[1 << 14, 1 << 22, 1 << 30, 1 << 45]);
         let offset = player.dice.one_of(&[1, 8, 63, 64, 1 << 15, 1 << 23, 1 << 31]);
         ask(player, right);
-        ask(player, right ^ 1 << player.dice.below(64));
+        let bit = player.dice.below(64);
+        ask(player, right ^ 1 << bit);
         ask(player, entry::pack(encoding, tag, wrapped, 0));
         ask(player, entry::pack(encoding, tag, number, offset));
     }
