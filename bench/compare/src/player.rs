@@ -2,6 +2,8 @@
 //! difference. A kind of session is a function over a player; it sees what stands now, so that it
 //! can choose the next request by it.
 
+use std::fmt;
+
 use bridge::{Operation, Reply, Words};
 use session::{Session, Step, World};
 
@@ -235,5 +237,14 @@ impl<'a> Player<'a> {
     /// Lock or unlock.
     pub fn hold(&mut self, operation: Operation, token: u64, task: u64) -> Reply {
         self.ask(Words { operation: operation as u64, token, task, ..Words::default() })
+    }
+}
+
+impl fmt::Display for Found {
+    /// The difference, then the session in the replay format.
+    fn fmt(&self, f: &mut fmt::Formatter<'_>) -> fmt::Result {
+        let requests = self.session.steps.len();
+        writeln!(f, "After request {requests} {}\n", self.difference)?;
+        f.write_str(&session::text::print(&self.session))
     }
 }

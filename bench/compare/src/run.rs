@@ -4,10 +4,12 @@ use std::fmt;
 use std::io::{stderr, IsTerminal, Write};
 use std::time::{Duration, Instant};
 
+use crate::command::Simulator;
 use crate::coverage::Coverage;
 use crate::dice::Dice;
+use crate::guard::{Guard, Guarded};
 use crate::kinds::{self, Kind};
-use crate::machine::{Model, Proved};
+use crate::machine::{Machine, Model, Proved};
 use crate::pair::Pair;
 use crate::player::{Found, Player};
 use crate::shrink::shrink;
@@ -17,6 +19,10 @@ use crate::shrink::shrink;
 pub struct Options {
     pub requests: u64,
     pub seed: u64,
+    /// A command that speaks the line protocol; without one it is the model.
+    pub against: Option<String>,
+    /// Puts each slice that is lent to the proved code against an unmapped page.
+    pub guard: Option<Guard>,
     /// Only sessions of the kind of this name.
     pub kind: Option<String>,
     /// Prints how often each operation, refusal and place was reached.
@@ -25,7 +31,8 @@ pub struct Options {
 
 impl Default for Options {
     fn default() -> Self {
-        Options { requests: 1_000_000, seed: 1, kind: None, coverage: false }
+        let (against, guard, kind) = (None, None, None);
+        Options { requests: 1_000_000, seed: 1, against, guard, kind, coverage: false }
     }
 }
 
@@ -51,8 +58,15 @@ impl Outcome {
 
 /// Compares as the options say; an error is a message for the user.
 pub fn run(options: &Options) -> Result<Outcome, String> {
-    let pair = Pair::new(Box::new(Proved::new()), Box::new(Model::new()));
-    compare(options, pair)
+    let reference: Box<dyn Machine> = match options.guard {
+        Some(guard) => Box::new(Guarded::new(guard).map_err(|error| error.to_string())?),
+        None => Box::new(Proved::new()),
+    };
+    let other: Box<dyn Machine> = match &options.against {
+        Some(command) => Box::new(Simulator::start(command)?),
+        None => Box::new(Model::new()),
+    };
+    compare(options, Pair::new(reference, other))
 }
 
 /// Compares two machines.
