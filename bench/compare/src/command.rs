@@ -14,7 +14,7 @@ use crate::machine::{replace, Machine, Trouble};
 use crate::protocol::{self, GREETING, PIECE};
 
 /// How long a program may keep silent, in milliseconds.
-const SILENCE: i32 = 60_000;
+const SILENCE: i32 = 20_000;
 
 /// How many pieces are asked for before their answers are read: few enough that neither side can
 /// wait for the other with full pipes.
@@ -41,7 +41,7 @@ impl Simulator {
         let command = command.to_string();
         let mut simulator =
             Simulator { command, process: None, shown: World::zeros(0, 0), line: Vec::new() };
-        simulator.greet().map_err(|trouble| trouble.0)?;
+        simulator.greet().map_err(|trouble| trouble.message().to_string())?;
         Ok(simulator)
     }
 
@@ -53,7 +53,9 @@ impl Simulator {
 
     fn process(&mut self) -> Result<&mut Process, Trouble> {
         let command = &self.command;
-        self.process.as_mut().ok_or_else(|| Trouble(format!("the command '{command}' has ended")))
+        self.process
+            .as_mut()
+            .ok_or_else(|| Trouble::Broken(format!("the command '{command}' has ended")))
     }
 
     /// Sends lines, without the last one's end.
@@ -63,7 +65,9 @@ impl Simulator {
         // What it said before it ended says more than that it does not read.
         match sent.and_then(|()| process.input.flush()) {
             Err(error) if error.kind() == io::ErrorKind::BrokenPipe => Err(self.ended()),
-            Err(error) => Err(Trouble(format!("the command cannot be written to: {error}"))),
+            Err(error) => {
+                Err(Trouble::Broken(format!("the command cannot be written to: {error}")))
+            }
             Ok(()) => Ok(()),
         }
     }
@@ -76,7 +80,10 @@ impl Simulator {
         let text = String::from_utf8_lossy(&line).trim_end().to_string();
         self.line = line;
         match read {
-            Err(error) => Err(Trouble(format!("the command cannot be read: {error}"))),
+            Err(error) if error.kind() == io::ErrorKind::TimedOut => {
+                Err(Trouble::Silent(format!("the command gave no answer for {} s", SILENCE / 1000)))
+            }
+            Err(error) => Err(Trouble::Broken(format!("the command cannot be read: {error}"))),
             Ok(false) => Err(self.ended()),
             Ok(true) => Ok(text),
         }
@@ -86,7 +93,7 @@ impl Simulator {
     fn ended(&mut self) -> Trouble {
         let status = self.process.take().and_then(Process::end);
         let how = status.map_or(String::new(), |status| format!(" ({status})"));
-        Trouble(format!("the command '{}' ended without an answer{how}", self.command))
+        Trouble::Broken(format!("the command '{}' ended without an answer{how}", self.command))
     }
 
     fn expect(&mut self, wanted: &str) -> Result<(), Trouble> {
@@ -171,7 +178,7 @@ fn pieces(command: &str, length: usize) -> impl Iterator<Item = String> + '_ {
 
 fn malformed(line: &str, expected: &str) -> Trouble {
     let start: String = line.chars().take(60).collect();
-    Trouble(format!("the command answered '{start}': {expected}"))
+    Trouble::Broken(format!("the command answered '{start}': {expected}"))
 }
 
 impl Process {
@@ -180,7 +187,8 @@ impl Process {
         shell.args(["-c", command]).stdin(Stdio::piped()).stdout(Stdio::piped());
         // A group of its own, so that the shell's children end with it.
         shell.process_group(0);
-        let cannot = |why: String| Trouble(format!("the command '{command}' cannot be run: {why}"));
+        let cannot =
+            |why: String| Trouble::Broken(format!("the command '{command}' cannot be run: {why}"));
         let mut child = shell.spawn().map_err(|error| cannot(error.to_string()))?;
         let (input, output) = (child.stdin.take(), child.stdout.take());
         let input = input.ok_or_else(|| cannot("no input".to_string()))?;
@@ -210,7 +218,7 @@ impl Process {
         let mut waited = Poll { fd: self.output.get_ref().as_raw_fd(), events: 1, revents: 0 };
         // One record of the layout that poll asks for is lent, for the time of the call.
         match unsafe { poll(&mut waited, 1, SILENCE) } {
-            0 => Err(io::Error::other(format!("no answer for {} s", SILENCE / 1000))),
+            0 => Err(io::ErrorKind::TimedOut.into()),
             -1 => Err(io::Error::last_os_error()),
             _ => Ok(()),
         }

@@ -4,6 +4,8 @@ use std::fmt;
 
 use bridge::{Reply, State};
 
+use crate::machine::Trouble;
+
 /// The first difference that a request showed. Of a pair the proved code's stands first.
 #[derive(Clone, Debug, PartialEq, Eq)]
 pub enum Difference {
@@ -21,7 +23,7 @@ pub enum Difference {
     /// The proved code refused, and yet something is not as it was.
     Changed(&'static str),
     /// The other machine gave no answer.
-    Trouble(String),
+    Trouble(Trouble),
 }
 
 impl Difference {
@@ -76,7 +78,7 @@ impl fmt::Display for Difference {
             Difference::Changed(part) => {
                 write!(f, "the proved code refused, and the {part} is not as it was")
             }
-            Difference::Trouble(message) => f.write_str(message),
+            Difference::Trouble(trouble) => f.write_str(trouble.message()),
         }
     }
 }

@@ -29,8 +29,14 @@ const ANONYMOUS: i32 = 0x20;
 const ANONYMOUS: i32 = 0x1000;
 
 extern "C" {
-    fn mmap(at: *mut c_void, length: usize, rights: i32, flags: i32, fd: i32, from: i64)
-        -> *mut c_void;
+    fn mmap(
+        at: *mut c_void,
+        length: usize,
+        rights: i32,
+        flags: i32,
+        fd: i32,
+        from: i64,
+    ) -> *mut c_void;
     fn mprotect(at: *mut c_void, length: usize, rights: i32) -> i32;
     fn munmap(at: *mut c_void, length: usize) -> i32;
 }
@@ -196,7 +202,8 @@ impl Machine for Guarded {
         buffer.copy_from_slice(self.buffer.bytes());
         let [refusal, place, first, second, dropped] = words(&self.answer);
         if refusal != returned {
-            return Err(Trouble(format!("returned {returned}, but the answer says {refusal}")));
+            let message = format!("returned {returned}, but the answer says {refusal}");
+            return Err(Trouble::Broken(message));
         }
         Ok(Reply { refusal, place, first, second, dropped })
     }

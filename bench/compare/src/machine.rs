@@ -3,9 +3,22 @@
 use bridge::{Reply, State, Words};
 use session::World;
 
-/// Why a machine gave no answer: it ended, kept silent, or its answer cannot be read.
+/// Why a machine gave no answer.
 #[derive(Clone, Debug, PartialEq, Eq)]
-pub struct Trouble(pub String);
+pub enum Trouble {
+    /// It ended, or its answer cannot be read.
+    Broken(String),
+    /// It kept silent for too long.
+    Silent(String),
+}
+
+impl Trouble {
+    pub fn message(&self) -> &str {
+        match self {
+            Trouble::Broken(message) | Trouble::Silent(message) => message,
+        }
+    }
+}
 
 /// A machine under comparison. It keeps state, table and memory between the requests.
 pub trait Machine {
@@ -104,16 +117,8 @@ impl Machine for Model {
     fn serve(&mut self, request: &Words, buffer: &mut [u8]) -> Result<Reply, Trouble> {
         let [operation, token, second, task, length, user, permissions, encoding] =
             request.in_order();
-        let request = model::Request {
-            operation,
-            token,
-            second,
-            task,
-            length,
-            user,
-            permissions,
-            encoding,
-        };
+        let request =
+            model::Request { operation, token, second, task, length, user, permissions, encoding };
         let answer =
             model::serve(request, &mut self.state, &mut self.table, &mut self.memory, buffer);
         let model::Answer { refusal, place, first, second, dropped } = answer;

@@ -22,7 +22,7 @@ impl Pair {
     /// Hands the same world to both.
     pub fn begin(&mut self, world: &World) -> Result<(), Difference> {
         let begun = self.reference.begin(world).and_then(|()| self.other.begin(world));
-        begun.map_err(|trouble| Difference::Trouble(trouble.0))
+        begun.map_err(Difference::Trouble)
     }
 
     /// Serves one request on both. Refusal with place, tokens, drop's number, state and every byte
@@ -32,12 +32,12 @@ impl Pair {
         replace(&mut self.theirs, buffer);
         let before = self.reference.state();
         let mine = self.reference.serve(request, &mut self.mine);
-        let mine = mine.map_err(|trouble| Difference::Trouble(trouble.0))?;
+        let mine = mine.map_err(Difference::Trouble)?;
         if mine.refusal != 0 {
             self.unchanged(&mine, before, buffer)?;
         }
         let theirs = self.other.serve(request, &mut self.theirs);
-        let theirs = theirs.map_err(|trouble| Difference::Trouble(trouble.0))?;
+        let theirs = theirs.map_err(Difference::Trouble)?;
         if mine != theirs {
             return Err(Difference::Reply([mine, theirs]));
         }

@@ -105,7 +105,8 @@ fn only(options: &Options) -> Result<Option<&'static Kind>, String> {
     };
     let kind = kinds::ALL.iter().find(|kind| kind.name == name);
     let names = || kinds::ALL.iter().map(|kind| kind.name).collect::<Vec<_>>().join(", ");
-    kind.map(Some).ok_or_else(|| format!("no kind of session '{name}'; expected one of {}", names()))
+    kind.map(Some)
+        .ok_or_else(|| format!("no kind of session '{name}'; expected one of {}", names()))
 }
 
 /// Progress on the standard error, if that is a terminal.

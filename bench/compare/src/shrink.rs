@@ -5,13 +5,18 @@
 use bridge::{Operation, State, Words};
 use session::World;
 
+use crate::difference::Difference;
 use crate::draft::{Draft, Part, Source};
 use crate::entry::SIZE;
+use crate::machine::Trouble;
 use crate::pair::Pair;
 use crate::player::Found;
 
 /// How much is played at most: each draft counts one, and one more for each 64 KiB of its world.
 const LIMIT: usize = 40_000;
+
+/// What a draft counts at which the other machine keeps silent: each costs the whole wait.
+const SILENCE: usize = LIMIT / 8;
 
 /// Rounds over all the steps, as long as they still shrink something.
 const ROUNDS: usize = 12;
@@ -52,6 +57,9 @@ impl Shrinker<'_> {
         let Some(found) = draft.play(self.pair) else {
             return false;
         };
+        if matches!(found.difference, Difference::Trouble(Trouble::Silent(_))) {
+            self.played += SILENCE;
+        }
         draft.parts.truncate(found.session.steps.len());
         self.draft = draft;
         self.found = found;
@@ -317,4 +325,3 @@ fn simpler(word: u64) -> Vec<u64> {
     words.dedup();
     words
 }
-

@@ -201,9 +201,7 @@ fn words(player: &mut Player, operation: Operation, number: usize, entry: &Entry
         Operation::Merge => merge(player, words, entry),
         Operation::Derive => derive(player, words, entry),
         Operation::Lock | Operation::Unlock => Words { task: task(player), ..words },
-        Operation::ExecuteOnly | Operation::Revoke => {
-            Words { encoding: encoding(player), ..words }
-        }
+        Operation::ExecuteOnly | Operation::Revoke => Words { encoding: encoding(player), ..words },
         _ => words,
     }
 }

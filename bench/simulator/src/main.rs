@@ -76,8 +76,7 @@ fn put(place: &mut [u8], at: &str, text: &str) -> Result<String, String> {
 
 fn ask(world: &mut World, words: &[&str], buffer: &str) -> Result<String, String> {
     let [operation, token, second, task, length, user, permissions, encoding] = numbers(words)?;
-    let request =
-        Request { operation, token, second, task, length, user, permissions, encoding };
+    let request = Request { operation, token, second, task, length, user, permissions, encoding };
     let mut buffer = bytes(buffer)?;
     let World { state, table, memory } = world;
     let answer = serve(request, state, table, memory, &mut buffer);

@@ -21,6 +21,29 @@ pub fn play(player: &mut Player) {
     wild::play(player, 20);
 }
 
+/// A line with low counts, perhaps with one fault, from which drops climb.
+pub fn climbs(player: &mut Player) {
+    let entries = player.dice.between(2, 9) as usize;
+    let mut world = worlds::line(player, entries, 64, 1);
+    for number in 0..entries {
+        let count = player.dice.one_of(&[0, 1, 1, 1, 1, 2]);
+        let entry = Entry::of(&world.table, number).with_count(count);
+        entry.store(&mut world.table, number);
+    }
+    if player.dice.once_in(2) {
+        let number = player.dice.index(entries);
+        let entry = Entry::of(&world.table, number);
+        spoil(player, entry).store(&mut world.table, number);
+    }
+    lock(player, &mut world);
+    player.begin(world);
+    for number in (0..entries).rev() {
+        let token = player.token(number);
+        player.simple(Operation::Drop, token);
+    }
+    wild::play(player, 6);
+}
+
 /// One fault, or a count, in one entry.
 fn spoil(player: &mut Player, entry: Entry) -> Entry {
     let nonce = entry.get(entry::NONCE);

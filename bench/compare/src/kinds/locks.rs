@@ -16,13 +16,15 @@ pub fn play(player: &mut Player) {
     }
 }
 
-/// The same table with an owner that is not Lockable.
+/// The same table with owners that are not Lockable, some of them locked all the same.
 fn unlockable(player: &mut Player) {
     let mut world = player.world();
     for number in worlds::used(player) {
         let entry = player.entry(number);
         if entry.kind() == entry::DIRECT && player.dice.once_in(2) {
-            entry.with(entry::LOCKABLE, 0).store(&mut world.table, number);
+            let holder = player.dice.one_of(&[0, 7]);
+            let entry = entry.with(entry::LOCKABLE, 0).locked_for(holder);
+            entry.store(&mut world.table, number);
         }
     }
     player.begin(world);
@@ -31,7 +33,7 @@ fn unlockable(player: &mut Player) {
 /// A lock, requests by its holder and by others, and its end.
 fn round(player: &mut Player) {
     let number = wild::used_number(player);
-    let holder = player.dice.one_of(&[1, 7, (1 << 55) - 1]);
+    let holder = player.dice.one_of(&[1, 7, 7, (1 << 55) - 1]);
     let token = player.token(number);
     player.hold(Operation::Lock, token, holder);
     if player.dice.once_in(4) {

@@ -36,12 +36,7 @@ pub struct Kind {
     pub play: fn(&mut Player),
 }
 
-const fn kind(
-    name: &'static str,
-    weight: u64,
-    play: fn(&mut Player),
-    about: &'static str,
-) -> Kind {
+const fn kind(name: &'static str, weight: u64, play: fn(&mut Player), about: &'static str) -> Kind {
     Kind { name, about, weight, play }
 }
 
@@ -53,6 +48,7 @@ pub const ALL: &[Kind] = &[
     kind("round", 80, round::play, "numbers going round over free entries that hold rubbish"),
     kind("tables", 150, tables::play, "handed-over tables: ill-formed, dead, overlapping"),
     kind("lines", 100, lines::play, "lines with one bad link or entry at any height, and climbs"),
+    kind("climbs", 100, lines::climbs, "drops that climb, with counts of 0, 1 and 2 on their way"),
     kind("counts", 100, counts::play, "counts at 0, 1, 2, 65,534 and 65,535"),
     kind("nonces", 60, nonces::play, "the last nonces, and those outside the limits"),
     kind("tasks", 30, tasks::play, "tasks around 2^55, as holder and as asker"),

@@ -3,8 +3,8 @@
 use bridge::Operation;
 
 use crate::player::Player;
-use crate::worlds::{self, SPENT};
 use crate::wild;
+use crate::worlds::{self, SPENT};
 
 pub fn play(player: &mut Player) {
     let memory = player.dice.one_of(&[4, 64, 256]);

@@ -5,8 +5,8 @@ use session::World;
 
 use crate::entry::{self, Entry};
 use crate::player::Player;
-use crate::worlds::{self, SPENT};
 use crate::wild;
+use crate::worlds::{self, SPENT};
 
 const MEMORY: u64 = 64;
 

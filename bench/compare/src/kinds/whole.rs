@@ -3,8 +3,8 @@
 use bridge::Operation;
 
 use crate::player::Player;
-use crate::worlds::{self, SPENT};
 use crate::wild;
+use crate::worlds::{self, SPENT};
 
 pub fn play(player: &mut Player) {
     let entries = player.dice.between(2, 5) as usize;
