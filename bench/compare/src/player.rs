@@ -241,10 +241,14 @@ impl<'a> Player<'a> {
 }
 
 impl fmt::Display for Found {
-    /// The difference, then the session in the replay format.
+    /// The difference, then the session in the replay format with what the proved code answers.
     fn fmt(&self, f: &mut fmt::Formatter<'_>) -> fmt::Result {
         let requests = self.session.steps.len();
         writeln!(f, "After request {requests} {}\n", self.difference)?;
-        f.write_str(&session::text::print(&self.session))
+        let mut world = self.session.world.clone();
+        let steps = self.session.steps.iter();
+        let replies = steps.map(|step| world.serve(&step.request, &mut step.buffer.clone()));
+        let replies: Vec<Reply> = replies.collect();
+        f.write_str(&session::text::print_with(&self.session, &replies))
     }
 }

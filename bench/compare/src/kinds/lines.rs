@@ -7,18 +7,29 @@ use crate::entry::{self, Entry};
 use crate::player::Player;
 use crate::{wild, worlds};
 
+/// Each fault once, each in a line of its own.
 pub fn play(player: &mut Player) {
+    for fault in 0..FAULTS {
+        if player.over() {
+            return;
+        }
+        with_fault(player, fault);
+    }
+}
+
+fn with_fault(player: &mut Player, fault: u64) {
     let entries = player.dice.between(3, 9) as usize;
     let mut world = worlds::line(player, entries, 64, 1);
     let number = player.dice.index(entries);
     let entry = Entry::of(&world.table, number);
-    spoil(player, entry).store(&mut world.table, number);
+    spoil(player, entry, fault).store(&mut world.table, number);
     lock(player, &mut world);
     player.begin(world);
-    for number in (0..entries).rev() {
-        every_request(player, number);
+    for _ in 0..4 {
+        let number = player.dice.index(entries);
+        some_requests(player, number);
     }
-    wild::play(player, 20);
+    wild::play(player, 6);
 }
 
 /// A line with low counts, perhaps with one fault, from which drops climb.
@@ -33,7 +44,8 @@ pub fn climbs(player: &mut Player) {
     if player.dice.once_in(2) {
         let number = player.dice.index(entries);
         let entry = Entry::of(&world.table, number);
-        spoil(player, entry).store(&mut world.table, number);
+        let fault = player.dice.below(FAULTS);
+        spoil(player, entry, fault).store(&mut world.table, number);
     }
     lock(player, &mut world);
     player.begin(world);
@@ -44,10 +56,13 @@ pub fn climbs(player: &mut Player) {
     wild::play(player, 6);
 }
 
+/// How many faults `spoil` knows.
+const FAULTS: u64 = 12;
+
 /// One fault, or a count, in one entry.
-fn spoil(player: &mut Player, entry: Entry) -> Entry {
+fn spoil(player: &mut Player, entry: Entry, fault: u64) -> Entry {
     let nonce = entry.get(entry::NONCE);
-    match player.dice.below(12) {
+    match fault {
         0 => Entry([0; entry::SIZE]),
         1 => entry.with(entry::TAG, entry.get(entry::TAG) ^ 1 << player.dice.below(16)),
         2 => entry.with(entry::NONCE, nonce + player.dice.between(1, 2)),
@@ -71,29 +86,19 @@ fn lock(player: &mut Player, world: &mut World) {
     }
 }
 
-/// Requests that change little, then those that change more, through one entry.
-fn every_request(player: &mut Player, number: usize) {
+/// An access by holder or other, then some of the other requests, through one entry.
+fn some_requests(player: &mut Player, number: usize) {
     let token = player.token(number);
     let task = player.dice.one_of(&[0, 7]);
-    player.read(token, 1, task);
-    player.write(token, 1, task);
-    player.fetch(token, 1, task);
-    player.hold(Operation::Unlock, token, 8);
-    let asked = [
-        Operation::Create,
-        Operation::Merge,
-        Operation::Derive,
-        Operation::ExecuteOnly,
-        Operation::Clone,
-        Operation::Lock,
-        Operation::Unlock,
-        Operation::Revoke,
-        Operation::Drop,
-        Operation::Drop,
-    ];
-    for operation in asked {
-        if player.dice.once_in(2) {
+    match player.dice.below(3) {
+        0 => player.read(token, 1, task),
+        1 => player.write(token, 1, task),
+        _ => player.fetch(token, 1, task),
+    };
+    for operation in Operation::ALL.into_iter().skip(4) {
+        if player.dice.once_in(3) {
             wild::ask_through(player, operation, number);
         }
     }
+    player.hold(Operation::Unlock, token, 8);
 }

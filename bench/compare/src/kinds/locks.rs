@@ -8,10 +8,11 @@ use crate::{entry, wild, worlds};
 pub fn play(player: &mut Player) {
     worlds::live(player, 20);
     player.rubbish = player.dice.once_in(4);
-    if player.dice.once_in(3) {
-        unlockable(player);
+    for _ in 0..5 {
+        round(player);
     }
-    for _ in 0..8 {
+    unlockable(player);
+    for _ in 0..5 {
         round(player);
     }
 }

@@ -9,7 +9,8 @@ use crate::worlds::{self, SPENT};
 pub fn play(player: &mut Player) {
     let memory = player.dice.one_of(&[4, 64, 256]);
     let first_nonce = SPENT - player.dice.between(1, 14);
-    worlds::reset(player, 8, memory, first_nonce);
+    let entries = player.dice.one_of(&[2, 3, 4, 8]);
+    worlds::reset(player, entries, memory, first_nonce);
     wild::play(player, 30);
     if player.dice.once_in(2) {
         handed_over(player);

@@ -11,21 +11,21 @@ use crate::worlds::{self, SPENT};
 const MEMORY: u64 = 64;
 
 pub fn play(player: &mut Player) {
-    match player.dice.below(6) {
-        0 | 1 => {
-            let first_nonce = player.dice.one_of(&[1, 2, 1_000]);
-            root(player, first_nonce);
-        }
-        2 => root(player, SPENT - 2),
-        3 => root(player, SPENT - 1),
-        4 => twice(player, 5),
-        _ => twice(player, SPENT - 2),
+    for nonce in [1, SPENT - 2, SPENT - 1] {
+        root(player, nonce);
+        wild::play(player, 5);
     }
-    wild::play(player, 10);
+    for nonce in [5, SPENT - 3, SPENT - 2] {
+        twice(player, nonce);
+        wild::play(player, 5);
+    }
 }
 
 /// Right after a reset: the root's new tag would be 0 again with the first nonce.
 fn root(player: &mut Player, nonce: u64) {
+    if player.over() {
+        return;
+    }
     let new = Entry::direct(0, MEMORY);
     let mut key = worlds::key(player);
     while new.issued_tag(key, 0, nonce) != 0 {
@@ -40,6 +40,9 @@ fn root(player: &mut Player, nonce: u64) {
 
 /// Two nonces in a row that give the same tag, which the handed-over entry has.
 fn twice(player: &mut Player, nonce: u64) {
+    if player.over() {
+        return;
+    }
     let number = player.dice.between(0, 3) as usize;
     let new = Entry::direct(8, 16);
     let mut key = worlds::key(player);

@@ -9,11 +9,12 @@ use crate::{entry, wild, worlds};
 const MEMORY: u64 = 2_048;
 
 pub fn play(player: &mut Player) {
-    match player.dice.below(3) {
-        0 => root(player),
-        _ => freed(player),
+    root(player);
+    wild::play(player, 10);
+    for grandchild in [false, true] {
+        freed(player, grandchild);
+        wild::play(player, 10);
     }
-    wild::play(player, 20);
 }
 
 /// Everything that walks a line, through one token.
@@ -27,6 +28,9 @@ fn through(player: &mut Player, token: u64) {
 
 /// The root is revoked twice and has tag 0 again; a child derived before that is dead.
 fn root(player: &mut Player) {
+    if player.over() {
+        return;
+    }
     let revoked = Entry::direct(0, MEMORY);
     let mut key = worlds::key(player);
     while revoked.issued_tag(key, 0, 3) != 0 || revoked.issued_tag(key, 0, 2) == 0 {
@@ -44,8 +48,7 @@ fn root(player: &mut Player) {
 
 /// A derived entry is freed while it has a child, and its number is given again, with a part of
 /// the root that is chosen so that the tag is the old one.
-fn freed(player: &mut Player) {
-    let grandchild = player.dice.once_in(2);
+fn freed(player: &mut Player, grandchild: bool) {
     worlds::reset(player, 3 + usize::from(grandchild), MEMORY as usize, 1);
     let first = player.derive(0, 0, 1_024, 7).first;
     let child = player.derive(first, 0, 512, 7).first;

@@ -10,7 +10,8 @@ pub fn play(player: &mut Player) {
     let memory = player.dice.one_of(&[2, 64, 4_096]);
     worlds::reset(player, 16, memory, 1);
     let half = memory as u64 / 2;
-    player.create(0, half, 7);
+    let permissions = player.dice.below(8);
+    player.create(0, half, permissions);
     for _ in 0..24 {
         let number = wild::used_number(player);
         derive(player, number);
@@ -49,5 +50,6 @@ fn create(player: &mut Player, number: usize) {
     let lengths = [whole + 1, (1 << 32) + 1, (1 << 32) + whole, 1 << 63, u64::MAX, whole, 1];
     let length = player.dice.one_of(&lengths);
     let (operation, token) = (Operation::Create as u64, player.token(number));
-    player.ask(Words { operation, token, length, ..Words::default() });
+    let permissions = player.dice.one_of(&[0, 0, 7]);
+    player.ask(Words { operation, token, length, permissions, ..Words::default() });
 }
