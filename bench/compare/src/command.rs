@@ -13,8 +13,9 @@ use session::World;
 use crate::machine::{replace, Machine, Trouble};
 use crate::protocol::{self, GREETING, PIECE};
 
-/// How long a program may keep silent, in milliseconds.
-const SILENCE: i32 = 20_000;
+/// How long a program may keep silent, in milliseconds: before its greeting, and then.
+const START: i32 = 60_000;
+const SILENCE: i32 = 10_000;
 
 /// How many pieces are asked for before their answers are read: few enough that neither side can
 /// wait for the other with full pipes.
@@ -25,6 +26,8 @@ struct Process {
     child: Child,
     input: ChildStdin,
     output: BufReader<ChildStdout>,
+    /// How long it may keep silent, in milliseconds.
+    patience: i32,
 }
 
 /// The program, with what it showed of its world last.
@@ -48,7 +51,9 @@ impl Simulator {
     fn greet(&mut self) -> Result<(), Trouble> {
         self.process = Some(Process::start(&self.command)?);
         self.send(GREETING.as_bytes())?;
-        self.expect(GREETING)
+        self.expect(GREETING)?;
+        self.process()?.patience = SILENCE;
+        Ok(())
     }
 
     fn process(&mut self) -> Result<&mut Process, Trouble> {
@@ -62,9 +67,9 @@ impl Simulator {
     fn send(&mut self, lines: &[u8]) -> Result<(), Trouble> {
         let process = self.process()?;
         let sent = process.input.write_all(lines).and_then(|()| process.input.write_all(b"\n"));
-        // What it said before it ended says more than that it does not read.
         match sent.and_then(|()| process.input.flush()) {
-            Err(error) if error.kind() == io::ErrorKind::BrokenPipe => Err(self.ended()),
+            // It no longer reads: what it said last, or how it ended, is told when its answer is read.
+            Err(error) if error.kind() == io::ErrorKind::BrokenPipe => Ok(()),
             Err(error) => {
                 Err(Trouble::Broken(format!("the command cannot be written to: {error}")))
             }
@@ -81,7 +86,7 @@ impl Simulator {
         self.line = line;
         match read {
             Err(error) if error.kind() == io::ErrorKind::TimedOut => {
-                Err(Trouble::Silent(format!("the command gave no answer for {} s", SILENCE / 1000)))
+                Err(Trouble::Silent("the command keeps silent".to_string()))
             }
             Err(error) => Err(Trouble::Broken(format!("the command cannot be read: {error}"))),
             Ok(false) => Err(self.ended()),
@@ -193,7 +198,8 @@ impl Process {
         let (input, output) = (child.stdin.take(), child.stdout.take());
         let input = input.ok_or_else(|| cannot("no input".to_string()))?;
         let output = output.ok_or_else(|| cannot("no output".to_string()))?;
-        Ok(Process { child, input, output: BufReader::with_capacity(1 << 16, output) })
+        let output = BufReader::with_capacity(1 << 16, output);
+        Ok(Process { child, input, output, patience: START })
     }
 
     /// Reads a line; false at the end of the output.
@@ -217,7 +223,7 @@ impl Process {
     fn wait(&self) -> io::Result<()> {
         let mut waited = Poll { fd: self.output.get_ref().as_raw_fd(), events: 1, revents: 0 };
         // One record of the layout that poll asks for is lent, for the time of the call.
-        match unsafe { poll(&mut waited, 1, SILENCE) } {
+        match unsafe { poll(&mut waited, 1, self.patience) } {
             0 => Err(io::ErrorKind::TimedOut.into()),
             -1 => Err(io::Error::last_os_error()),
             _ => Ok(()),
