@@ -1,8 +1,10 @@
-//! How often each operation, refusal and place was reached.
+//! How often each operation, refusal and place was reached, and what else is rare.
 
 use std::fmt;
 
 use bridge::{Operation, Reply};
+
+use crate::events::Events;
 
 /// The operations 0 to 12, and all numbers above.
 pub const OPERATIONS: usize = 14;
@@ -31,11 +33,15 @@ pub const CASES: [Case; 14] = [
 ];
 
 #[derive(Clone, Debug, PartialEq, Eq)]
-pub struct Coverage([[[u64; PLACES]; REFUSALS]; OPERATIONS]);
+pub struct Coverage {
+    answers: [[[u64; PLACES]; REFUSALS]; OPERATIONS],
+    pub events: Events,
+}
 
 impl Default for Coverage {
     fn default() -> Self {
-        Coverage([[[0; PLACES]; REFUSALS]; OPERATIONS])
+        let answers = [[[0; PLACES]; REFUSALS]; OPERATIONS];
+        Coverage { answers, events: Events::default() }
     }
 }
 
@@ -50,17 +56,17 @@ fn name(row: usize) -> &'static str {
 
 impl Coverage {
     pub fn count(&mut self, operation: u64, reply: &Reply) {
-        let cell = self.0[row(operation)].get_mut(reply.refusal as usize);
+        let cell = self.answers[row(operation)].get_mut(reply.refusal as usize);
         if let Some(cell) = cell.and_then(|places| places.get_mut(reply.place as usize)) {
             *cell += 1;
         }
     }
 
     pub fn reached(&self, operation: u64, (refusal, place): Case) -> u64 {
-        self.0[row(operation)][refusal as usize][place as usize]
+        self.answers[row(operation)][refusal as usize][place as usize]
     }
 
-    /// The cases that 01 allows and that were not reached, as text.
+    /// The cases that 01 allows and the events that were not reached, as text.
     pub fn missing(&self) -> Vec<String> {
         let pairs =
             (0..OPERATIONS).flat_map(|row| CASES.into_iter().map(move |case| (row as u64, case)));
@@ -68,6 +74,7 @@ impl Coverage {
             .filter(|&(operation, case)| possible(operation, case))
             .filter(|&(operation, case)| self.reached(operation, case) == 0)
             .map(|(operation, case)| format!("{} {}", name(row(operation)), heading(case)))
+            .chain(self.events.missing())
             .collect()
     }
 }
@@ -126,7 +133,7 @@ impl fmt::Display for Coverage {
                 self.cell(f, row as u64, case)?;
             }
         }
-        Ok(())
+        write!(f, "\n\n{}", self.events)
     }
 }
 

@@ -10,6 +10,8 @@ mod dice;
 mod difference;
 mod draft;
 mod entry;
+mod events;
+mod fault;
 mod guard;
 mod kinds;
 mod machine;

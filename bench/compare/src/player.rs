@@ -110,11 +110,14 @@ impl<'a> Player<'a> {
             request = self.with_rubbish(request);
         }
         self.left -= 1;
+        let (before, root) = (self.state(), !self.entry(0).is_free());
         self.log.steps.push(Step { request, buffer });
         let buffer = self.log.steps.last().map_or(&[][..], |step| &step.buffer);
         match self.pair.ask(&request, buffer) {
             Ok(reply) => {
                 self.coverage.count(request.operation, &reply);
+                let machine = self.pair.reference.as_ref();
+                self.coverage.events.count(&request, &reply, before, root, machine);
                 self.keep(request.operation, &reply);
                 reply
             }

@@ -135,7 +135,7 @@ fn bytes(text: &str) -> Result<Vec<u8>, String> {
     if text == "-" {
         return Ok(Vec::new());
     }
-    if text.len() % 2 != 0 {
+    if !text.len().is_multiple_of(2) {
         return Err("expected an even number of hexadecimal digits, or -".to_string());
     }
     let mut bytes = vec![0; text.len() / 2];

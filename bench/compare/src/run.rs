@@ -7,6 +7,7 @@ use std::time::{Duration, Instant};
 use crate::command::Simulator;
 use crate::coverage::Coverage;
 use crate::dice::Dice;
+use crate::fault;
 use crate::guard::{Guard, Guarded};
 use crate::kinds::{self, Kind};
 use crate::machine::{Machine, Model, Proved};
@@ -59,7 +60,10 @@ impl Outcome {
 /// Compares as the options say; an error is a message for the user.
 pub fn run(options: &Options) -> Result<Outcome, String> {
     let reference: Box<dyn Machine> = match options.guard {
-        Some(guard) => Box::new(Guarded::new(guard).map_err(|error| error.to_string())?),
+        Some(guard) => {
+            fault::watch(options.seed);
+            Box::new(Guarded::new(guard).map_err(|error| error.to_string())?)
+        }
         None => Box::new(Proved::new()),
     };
     let other: Box<dyn Machine> = match &options.against {
@@ -77,6 +81,7 @@ pub fn compare(options: &Options, mut pair: Pair) -> Result<Outcome, String> {
     let mut coverage = Coverage::default();
     let (mut left, mut sessions, mut found) = (options.requests, 0, None);
     while left > 0 && found.is_none() {
+        fault::session(sessions);
         let mut dice = Dice::new(options.seed, sessions);
         let kind = only.unwrap_or_else(|| kinds::choose(sessions, &mut dice));
         let mut player = Player::new(dice, &mut pair, &mut coverage, left);

@@ -8,7 +8,7 @@ use crate::{wild, worlds};
 
 /// A handed-over line, whole or with one fault in it.
 pub fn play(player: &mut Player) {
-    let entries = match player.dice.below(3) {
+    let entries = match player.dice.below(2) {
         0 => 1_024,
         _ => player.dice.between(3, 400) as usize,
     };
