@@ -4,7 +4,8 @@
 
 use std::path::{Path, PathBuf};
 use std::process::Command;
-use std::{env, fs};
+use std::sync::Mutex;
+use std::{env, fs, thread};
 
 use compare::{run, Options};
 
@@ -110,11 +111,13 @@ fn rustc(name: &str, folder: &Path, arguments: &[&str]) {
 
 /// Builds the simulator over the copy.
 fn build(name: &str, folder: &Path) {
-    rustc(name, folder, &["--crate-name", "model", "--crate-type", "rlib", "src/lib.rs"]);
+    let library = ["--crate-name", "model", "--crate-type", "rlib", "src/lib.rs"];
+    rustc(name, folder, &library);
     let main = bench().canonicalize().expect("the bench").join("simulator/src/main.rs");
     let main = main.to_string_lossy();
     let model = ["--extern", "model=libmodel.rlib"];
-    let output = ["--crate-name", "simulator", "-o", "simulator"];
+    // Its lines are long, its requests few.
+    let output = ["--crate-name", "simulator", "-o", "simulator", "-C", "opt-level=1"];
     rustc(name, folder, &[&[&*main], &model[..], &output[..]].concat());
 }
 
@@ -131,12 +134,27 @@ fn find(name: &str) -> usize {
     found.session.steps.len()
 }
 
+/// The faults left, taken by each of the threads in turn.
+fn find_all(names: Vec<String>) -> Vec<(String, usize)> {
+    let (left, lengths) = (Mutex::new(names), Mutex::new(Vec::new()));
+    let work = || loop {
+        let Some(name) = left.lock().expect("the faults left").pop() else {
+            return;
+        };
+        let length = find(&name);
+        lengths.lock().expect("the lengths").push((name, length));
+    };
+    let threads = thread::available_parallelism().map_or(1, usize::from);
+    thread::scope(|scope| (0..threads).for_each(|_| drop(scope.spawn(work))));
+    lengths.into_inner().expect("the lengths")
+}
+
 #[test]
 fn each_fault_is_found_and_shrunk() {
     let names = names();
     assert!(names.len() >= 14);
-    let lengths: Vec<(String, usize)> =
-        names.into_iter().map(|name| (name.clone(), find(&name))).collect();
+    let mut lengths = find_all(names);
+    lengths.sort();
     for (name, length) in &lengths {
         println!("{name}: {length} requests");
     }

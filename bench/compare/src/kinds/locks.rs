@@ -22,13 +22,17 @@ fn unlockable(player: &mut Player) {
     let mut world = player.world();
     for number in worlds::used(player) {
         let entry = player.entry(number);
-        if entry.kind() == entry::DIRECT && player.dice.once_in(2) {
-            let holder = player.dice.one_of(&[0, 7]);
+        if entry.kind() == entry::DIRECT && !player.dice.once_in(4) {
+            let holder = player.dice.one_of(&[0, 7, 7]);
             let entry = entry.with(entry::LOCKABLE, 0).locked_for(holder);
             entry.store(&mut world.table, number);
         }
     }
     player.begin(world);
+    for number in worlds::used(player) {
+        let token = player.token(number);
+        player.hold(Operation::Lock, token, 7);
+    }
 }
 
 /// A lock, requests by its holder and by others, and its end.

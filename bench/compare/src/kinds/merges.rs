@@ -57,7 +57,7 @@ fn join(player: &mut Player) {
 /// A lock, a clone, a drop or nothing.
 fn unrest(player: &mut Player, tokens: [u64; 2]) {
     let token = player.dice.one_of(&tokens);
-    match player.dice.below(10) {
+    match player.dice.below(16) {
         0 => player.hold(Operation::Lock, token, 7),
         1 => player.simple(Operation::Clone, token),
         2 => player.derive(token, 0, 1, 4),

@@ -68,11 +68,24 @@ pub const ALL: &[Kind] = &[
     kind("large", 1, large::play, "16 MiB of memory, 1,024 entries"),
 ];
 
-/// The kind of a session: each kind once at the start, then by weight.
+/// How many kinds at the end of the list are large.
+const LARGE: usize = 2;
+
+/// How often each of the other kinds is played at the start of a run.
+const ROUNDS: usize = 3;
+
+/// The kind of a session: each kind in turn at the start, the large ones last, then by weight.
 pub fn choose(session: u64, dice: &mut Dice) -> &'static Kind {
-    if let Some(kind) = ALL.get(session as usize) {
-        return kind;
+    let (small, large) = ALL.split_at(ALL.len() - LARGE);
+    let session = usize::try_from(session).unwrap_or(usize::MAX);
+    let turns = ROUNDS * small.len();
+    if session < turns {
+        return &small[session % small.len()];
     }
+    large.get(session - turns).unwrap_or_else(|| by_weight(dice))
+}
+
+fn by_weight(dice: &mut Dice) -> &'static Kind {
     let mut at = dice.below(ALL.iter().map(|kind| kind.weight).sum());
     for kind in ALL {
         if at < kind.weight {

@@ -11,19 +11,20 @@ pub fn play(player: &mut Player) {
     let first_nonce = SPENT - player.dice.between(1, 14);
     let entries = player.dice.one_of(&[2, 3, 4, 8]);
     worlds::reset(player, entries, memory, first_nonce);
-    wild::play(player, 30);
-    if player.dice.once_in(2) {
-        handed_over(player);
-    }
+    wild::play(player, 20);
     each_issue(player);
-    wild::play(player, 30);
+    for nonces in [&[SPENT][..], &[SPENT - 2, SPENT - 1], &[0, 1, SPENT + 1, u64::MAX]] {
+        let next_nonce = player.dice.one_of(nonces);
+        hand_over(player, next_nonce);
+        each_issue(player);
+    }
+    wild::play(player, 10);
 }
 
-/// The same tables with another next nonce.
-fn handed_over(player: &mut Player) {
+/// The same table with another next nonce.
+fn hand_over(player: &mut Player, next_nonce: u64) {
     let mut world = player.world();
-    let nonces = [0, 1, SPENT - 2, SPENT - 1, SPENT - 1, SPENT, SPENT, SPENT + 1, u64::MAX];
-    world.state.next_nonce = player.dice.one_of(&nonces);
+    world.state.next_nonce = next_nonce;
     player.begin(world);
 }
 

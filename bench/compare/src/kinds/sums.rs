@@ -16,6 +16,7 @@ pub fn play(player: &mut Player) {
         let number = wild::used_number(player);
         derive(player, number);
         access(player, number);
+        let number = player.dice.index(2);
         create(player, number);
     }
     wild::play(player, 20);
