@@ -23,10 +23,12 @@ pub enum Event {
     CountAtTop,
     LargestMemory,
     LargestTable,
+    TooMuchMemory,
+    TooManyEntries,
     DeepestLine,
 }
 
-pub const EVENTS: [(Event, &str); 12] = [
+pub const EVENTS: [(Event, &str); 14] = [
     (Event::PassedOne, "a revoke passed over one nonce"),
     (Event::PassedTwo, "a revoke passed over two nonces"),
     (Event::RefusedByPassing, "a revoke was refused since all nonces left were passed over"),
@@ -38,6 +40,8 @@ pub const EVENTS: [(Event, &str); 12] = [
     (Event::CountAtTop, "a count came to 65,535"),
     (Event::LargestMemory, "a request over 16,777,216 bytes was granted"),
     (Event::LargestTable, "a request over 1,024 entries was granted"),
+    (Event::TooMuchMemory, "a request over 16,777,217 bytes was refused"),
+    (Event::TooManyEntries, "a request over 1,025 entries was refused"),
     (Event::DeepestLine, "a line of 1,023 links was walked"),
 ];
 
@@ -67,9 +71,12 @@ impl Events {
             }
             _ => {}
         }
-        let granted = reply.refusal == 0;
-        self.add(Event::LargestMemory, granted && machine.memory().len() == 1 << 24);
-        self.add(Event::LargestTable, granted && machine.table().len() == 1_024 * entry::SIZE);
+        let memory = (reply.refusal, machine.memory().len());
+        self.add(Event::LargestMemory, memory == (0, 1 << 24));
+        self.add(Event::TooMuchMemory, memory == (1, (1 << 24) + 1));
+        let table = (reply.refusal, machine.table().len());
+        self.add(Event::LargestTable, table == (0, 1_024 * entry::SIZE));
+        self.add(Event::TooManyEntries, table == (1, 1_025 * entry::SIZE));
     }
 
     fn add(&mut self, event: Event, seen: bool) {

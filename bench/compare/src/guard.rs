@@ -4,6 +4,7 @@
 use std::ffi::c_void;
 use std::io;
 use std::ptr::null_mut;
+use std::str::FromStr;
 
 use bridge::{Reply, State, Words};
 use session::World;
@@ -15,6 +16,18 @@ use crate::machine::{Machine, Trouble};
 pub enum Guard {
     Before,
     Behind,
+}
+
+impl FromStr for Guard {
+    type Err = String;
+
+    fn from_str(text: &str) -> Result<Guard, String> {
+        match text {
+            "before" => Ok(Guard::Before),
+            "behind" => Ok(Guard::Behind),
+            _ => Err(format!("expected before or behind, not '{text}'")),
+        }
+    }
 }
 
 /// No page is larger than this on the machines that the bench runs on.

@@ -48,6 +48,12 @@ fn one_seed_gives_the_same_sessions() {
 }
 
 #[test]
+fn guards_by_name() {
+    assert_eq!(("before".parse(), "behind".parse()), (Ok(Guard::Before), Ok(Guard::Behind)));
+    assert!("beside".parse::<Guard>().unwrap_err().contains("before or behind"));
+}
+
+#[test]
 fn a_kind_that_is_not_there() {
     let kind = Some("nothing".to_string());
     let error = run(&Options { kind, ..options(1, 1) }).unwrap_err();

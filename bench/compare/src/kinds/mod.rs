@@ -65,7 +65,7 @@ pub const ALL: &[Kind] = &[
     kind("rest", 3, rest::play, "a root's rest with tag 0, so that token 0 keeps working"),
     kind("deep", 4, deep::play, "handed-over lines as deep as the table, up to 1,023 links"),
     kind("derived", 1, deep::derived, "a line derived link by link over the whole table"),
-    kind("large", 1, large::play, "16 MiB of memory, 1,024 entries"),
+    kind("large", 1, large::play, "16 MiB of memory, 1,024 entries, and memories one byte off"),
 ];
 
 /// How many kinds at the end of the list are large.

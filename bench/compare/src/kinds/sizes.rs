@@ -1,4 +1,5 @@
-//! Sizes one inside and one outside each limit: table, memory, buffer, and the state's.
+//! Sizes one inside and one outside each limit: table, memory, buffer, and the state's. The upper
+//! limit of memory is that of the kind `large`.
 
 use bridge::{Operation, Words};
 use session::World;
@@ -11,17 +12,13 @@ const TABLES: [usize; 16] =
     [0, 1, 31, 32, 33, 63, 64, 64, 65, 95, 96, 97, 32_736, 32_767, 32_768, 32_769];
 const MEMORIES: [usize; 8] = [0, 1, 1, 2, 3, 4_095, 4_096, 4_097];
 const BUFFERS: [usize; 8] = [0, 1, 2, 4_095, 4_096, 4_097, 5_000, 8_192];
-const MIB_16: usize = 1 << 24;
 
 pub fn play(player: &mut Player) {
     let table = match player.dice.below(8) {
         0 => 32_800,
         _ => player.dice.one_of(&TABLES),
     };
-    let memory = match player.dice.below(400) {
-        0 => player.dice.one_of(&[MIB_16 - 1, MIB_16, MIB_16 + 1, MIB_16 + 2]),
-        _ => player.dice.one_of(&MEMORIES),
-    };
+    let memory = player.dice.one_of(&MEMORIES);
     player.begin(World::zeros(table, memory));
     every_operation(player);
     player.reset([1, 2], 1);
