@@ -1,6 +1,7 @@
 //! Sessions: what stands at the start, and the requests in their order.
 
 pub mod entry;
+pub mod play;
 pub mod text;
 pub mod token;
 

@@ -13,7 +13,7 @@ fn read_again(text: &str) -> Session {
 #[test]
 fn random_sessions() {
     let mut dice = Dice(1);
-    for _ in 0..3_000 {
+    for _ in 0..1_000 {
         let session = dice.session();
         let text = print(&session);
         assert!(read_again(&text) == session, "{text}");
@@ -23,7 +23,7 @@ fn random_sessions() {
 #[test]
 fn random_sessions_with_random_replies() {
     let mut dice = Dice(2);
-    for _ in 0..3_000 {
+    for _ in 0..1_000 {
         let session = dice.session();
         let replies: Vec<bridge::Reply> = (0..session.steps.len())
             .map(|_| bridge::Reply {

@@ -10,8 +10,8 @@ const GAP: usize = 8;
 /// Slices are first compared in parts of this length.
 const PART: usize = 4096;
 
-/// The state's words, the entries and the runs of memory that differ. Both worlds must have the same
-/// sizes.
+/// The state's words, the entries and the runs of memory that differ. Both worlds must have the
+/// same sizes.
 pub fn changes(before: &World, now: &World) -> Vec<Standing> {
     let state = StatedState::since(&before.state, &now.state);
     let stated = (state != StatedState::default()).then_some(Standing::State(state));

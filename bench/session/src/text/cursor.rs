@@ -63,16 +63,25 @@ impl<'a> Cursor<'a> {
 
     /// An error at the next word, or at the line's end.
     pub fn error(&self, expected: &str) -> Error {
-        let (line, column, found) = match self.words.get(self.at) {
-            Some(word) => (word.line, word.column, format!("'{}'", shortened(word.text))),
-            None => (self.end.0, self.end.1, "the line's end".to_string()),
-        };
-        Error { line, column, expected: expected.to_string(), found }
+        self.error_at(self.at, expected)
     }
 
     /// An error at the word before.
     pub fn error_before(&self, expected: &str) -> Error {
-        Cursor { at: self.at.saturating_sub(1), ..*self }.error(expected)
+        self.error_at(self.at.saturating_sub(1), expected)
+    }
+
+    pub fn error_at_end(&self, expected: &str) -> Error {
+        self.error_at(self.words.len(), expected)
+    }
+
+    /// An error at a word by its index, or at the line's end.
+    pub fn error_at(&self, at: usize, expected: &str) -> Error {
+        let (line, column, found) = match self.words.get(at) {
+            Some(word) => (word.line, word.column, format!("'{}'", shortened(word.text))),
+            None => (self.end.0, self.end.1, "the line's end".to_string()),
+        };
+        Error { line, column, expected: expected.to_string(), found }
     }
 }
 

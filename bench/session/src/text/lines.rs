@@ -23,7 +23,7 @@ pub struct Line<'a> {
 /// The lines that have words. The comments at the end stand above a last line without words.
 pub fn lines(text: &str) -> Result<Vec<Line<'_>>, Error> {
     let mut lines = Vec::new();
-    let mut line = Line::default();
+    let mut line = Line { end: (1, 1), ..Line::default() };
     for (at, text) in text.lines().enumerate() {
         let (number, goes_on) = (at + 1, !line.words.is_empty());
         let (code, comment) = split_comment(text);

@@ -1,15 +1,14 @@
 //! Script to text.
 
-use super::parse::FIELDS;
-use super::script::{Ask, EntryLine, Expected, Script, Standing, StatedState, Word};
+use super::script::{
+    Ask, Comments, EntryLine, Expected, Script, Sizes, Standing, Start, StatedState, Word,
+};
+use super::words::token_text;
 use super::{bytes, words, FILL};
 use crate::entry::{self, Field, ENTRY};
 use crate::token::PARENT_ENCODING;
-use crate::World;
-use bridge::{Operation, State};
+use bridge::Operation;
 use std::fmt::Write;
-
-pub use super::words::token_text;
 
 /// Requests longer than this do not push the results of the others to the right.
 const WIDEST: usize = 64;
@@ -17,12 +16,16 @@ const WIDEST: usize = 64;
 /// A script as text. Parsing gives the same script.
 pub fn print_script(script: &Script) -> String {
     let mut text = String::new();
-    push_lines(&mut text, &script.above);
-    push_world(&mut text, &script.world);
+    push_lines(&mut text, &script.head.above);
+    text.push_str(&sizes_text(&script.sizes));
+    push_end(&mut text, &script.head);
     if script.exact {
         text.push_str("exact\n");
     }
-    let requests: Vec<String> = script.asks.iter().map(request_text).collect();
+    for start in &script.start {
+        push_start(&mut text, start);
+    }
+    let requests: Vec<String> = script.asks.iter().map(print_request).collect();
     let short = requests.iter().map(String::len).filter(|length| *length <= WIDEST);
     let width = short.max().unwrap_or(0);
     for (ask, request) in script.asks.iter().zip(requests) {
@@ -39,22 +42,26 @@ fn push_lines(text: &mut String, lines: &[String]) {
     }
 }
 
-/// The sizes, and all that is not zero at the start.
-fn push_world(text: &mut String, world: &World) {
-    let (memory, table) = (world.memory.len(), world.table.len());
-    let sizes = match table % ENTRY {
+/// A comment behind a line, and the line's end.
+fn push_end(text: &mut String, comments: &Comments) {
+    if let Some(comment) = &comments.behind {
+        let _ = write!(text, "  # {comment}");
+    }
+    text.push('\n');
+}
+
+fn sizes_text(sizes: &Sizes) -> String {
+    let Sizes { table, memory } = sizes;
+    match table % ENTRY {
         0 => format!("memory {memory} entries {}", table / ENTRY),
         _ => format!("memory {memory} table {table}"),
-    };
-    text.push_str(&sizes);
-    text.push('\n');
-    let zeros = World::zeros(table, memory);
-    if world.state != State::default() {
-        push_standing(text, "", &Standing::State(StatedState::all(&world.state)));
     }
-    for line in super::changes(&World { state: world.state, ..zeros }, world) {
-        push_standing(text, "", &line);
-    }
+}
+
+fn push_start(text: &mut String, start: &Start) {
+    push_lines(text, &start.comments.above);
+    text.push_str(&print_standing(&start.standing));
+    push_end(text, &start.comments);
 }
 
 fn push_ask(text: &mut String, ask: &Ask, request: &str, width: usize) {
@@ -64,17 +71,14 @@ fn push_ask(text: &mut String, ask: &Ask, request: &str, width: usize) {
         let blanks = width.saturating_sub(request.len());
         let _ = write!(text, "{:blanks$} -> {}", "", expected_text(expected));
     }
-    if let Some(comment) = &ask.comments.behind {
-        let _ = write!(text, "  # {comment}");
-    }
-    text.push('\n');
+    push_end(text, &ask.comments);
     for line in &ask.standing {
         push_standing(text, "= ", line);
     }
 }
 
 /// The request with its words; those that are zero are left out unless the operation lives by them.
-fn request_text(ask: &Ask) -> String {
+pub fn print_request(ask: &Ask) -> String {
     let operation = Operation::of(ask.words.operation);
     let mut text = match operation {
         Some(operation) => operation.name().to_string(),
@@ -88,7 +92,8 @@ fn request_text(ask: &Ask) -> String {
         }
     };
     let reset = operation == Some(Operation::Reset);
-    push(if reset { "nonce" } else { "task" }, ask.words.task, reset);
+    let locking = matches!(operation, Some(Operation::Lock | Operation::Unlock));
+    push(if reset { "nonce" } else { "task" }, ask.words.task, reset || locking);
     push("length", ask.words.length, sized);
     push("user", ask.words.user, false);
     if sized || ask.words.permissions != 0 {
@@ -208,6 +213,13 @@ fn name_text(name: &Option<String>, token: Option<u64>) -> String {
     }
 }
 
+/// What stands, as its line.
+pub fn print_standing(standing: &Standing) -> String {
+    let mut text = String::new();
+    push_standing(&mut text, "", standing);
+    text.trim_end().to_string()
+}
+
 /// A line on what stands, or several for long bytes.
 fn push_standing(text: &mut String, mark: &str, standing: &Standing) {
     match standing {
@@ -273,7 +285,7 @@ fn always_shown(field: Field) -> bool {
 /// In a whole entry a flag stands alone.
 fn whole_field_text(field: Field, value: u64) -> String {
     match field {
-        Field::Locked | Field::Lockable | Field::Cow => format!(" {}", field_name(field)),
+        Field::Locked | Field::Lockable | Field::Cow => format!(" {}", words::field_name(field)),
         _ => field_text(field, value),
     }
 }
@@ -285,10 +297,5 @@ fn field_text(field: Field, value: u64) -> String {
         Field::Tag => format!("{value:#06x}"),
         _ => words::number_text(value),
     };
-    format!(" {} {value}", field_name(field))
-}
-
-/// The word of a field.
-pub fn field_name(field: Field) -> &'static str {
-    FIELDS.iter().find(|(_, other)| *other == field).map_or("", |(name, _)| name)
+    format!(" {} {value}", words::field_name(field))
 }

@@ -1,9 +1,11 @@
 //! A script: a session as it is written, with names, expected results and comments.
 
 use std::collections::HashMap;
+use std::fmt;
 
+use super::change::changes;
 use super::words;
-use crate::entry::{self, Field};
+use crate::entry::{self, Field, ENTRY};
 use crate::token::Token;
 use crate::{Session, Step, World};
 use bridge::{Operation, Reply, State, Words};
@@ -11,15 +13,31 @@ use bridge::{Operation, Reply, State, Words};
 /// A start, and requests with what is expected of them.
 #[derive(Clone, Debug, PartialEq, Eq)]
 pub struct Script {
-    /// Comments and blank lines above the first line.
-    pub above: Vec<String>,
-    pub world: World,
-    /// Whether everything is fixed: what no line states is as it was before the request, and words of
-    /// an answer that are not stated are 0.
+    /// Comments at the first line, which gives the sizes.
+    pub head: Comments,
+    pub sizes: Sizes,
+    /// What stands at the start, where it is not zero.
+    pub start: Vec<Start>,
+    /// Whether everything is fixed: what no line states is as it was before the request, and words
+    /// of an answer that are not stated are 0.
     pub exact: bool,
     pub asks: Vec<Ask>,
     /// Comments and blank lines at the end.
     pub below: Vec<String>,
+}
+
+/// The lengths of table and memory in bytes.
+#[derive(Clone, Copy, Debug, PartialEq, Eq)]
+pub struct Sizes {
+    pub table: usize,
+    pub memory: usize,
+}
+
+/// Something that stands at the start.
+#[derive(Clone, Debug, PartialEq, Eq)]
+pub struct Start {
+    pub comments: Comments,
+    pub standing: Standing,
 }
 
 /// Comments and blank lines above a line, and a comment behind it.
@@ -115,6 +133,17 @@ pub enum Unresolved {
     DoesNotFit(String),
 }
 
+impl fmt::Display for Unresolved {
+    fn fmt(&self, to: &mut fmt::Formatter) -> fmt::Result {
+        match self {
+            Unresolved::NotGiven(name) => write!(to, "nobody gave '{name}'"),
+            Unresolved::DoesNotFit(name) => {
+                write!(to, "the encoding of '{name}' has no room for its number and offset")
+            }
+        }
+    }
+}
+
 impl Word {
     pub fn resolve(&self, names: &Names) -> Result<u64, Unresolved> {
         let (name, encoding, offset) = match self {
@@ -129,6 +158,35 @@ impl Word {
         });
         packed.ok_or_else(|| Unresolved::DoesNotFit(name.clone()))
     }
+}
+
+impl Standing {
+    /// Makes it stand. Places lie inside the world that the text was read for.
+    pub fn put(&self, world: &mut World) {
+        match self {
+            Standing::State(state) => state.put(&mut world.state),
+            Standing::Entry { number, line } => put_entry(&mut world.table, *number, line),
+            Standing::Table { at, bytes } => {
+                world.table[*at..at + bytes.len()].copy_from_slice(bytes);
+            }
+            Standing::Memory { at, bytes } => {
+                world.memory[*at..at + bytes.len()].copy_from_slice(bytes);
+            }
+        }
+    }
+}
+
+fn put_entry(table: &mut [u8], number: usize, line: &EntryLine) {
+    let Some(mut bytes) = entry::at(table, number) else {
+        return;
+    };
+    match line {
+        EntryLine::Whole(whole) => bytes = *whole,
+        EntryLine::Fields(fields) => {
+            fields.iter().for_each(|(field, value)| entry::set(&mut bytes, *field, *value));
+        }
+    }
+    table[ENTRY * number..][..ENTRY].copy_from_slice(&bytes);
 }
 
 impl StatedState {
@@ -175,8 +233,8 @@ impl Ask {
         Ok(Words { token, second, ..self.words })
     }
 
-    /// Adds the names that this request's answer gives. A name whose token is stated stands for that
-    /// one, so that the session is the same whoever answers; another one for what was given.
+    /// Adds the names that this request's answer gives. A name whose token is stated stands for
+    /// that one, so that the session is the same whoever answers; another one for what was given.
     pub fn add_names(&self, given: Option<&Reply>, names: &mut Names) {
         let Some(expected) = &self.expected else {
             return;
@@ -196,13 +254,26 @@ impl Ask {
 
 impl Script {
     pub fn of(session: &Session) -> Script {
+        let World { table, memory, .. } = &session.world;
+        let sizes = Sizes { table: table.len(), memory: memory.len() };
+        let start = start_of(&session.world).into_iter();
         Script {
-            above: Vec::new(),
-            world: session.world.clone(),
+            head: Comments::default(),
+            sizes,
+            start: start
+                .map(|standing| Start { comments: Comments::default(), standing })
+                .collect(),
             exact: false,
             asks: session.steps.iter().map(Ask::of).collect(),
             below: Vec::new(),
         }
+    }
+
+    /// What stands at the start.
+    pub fn world(&self) -> World {
+        let mut world = World::zeros(self.sizes.table, self.sizes.memory);
+        self.start.iter().for_each(|start| start.standing.put(&mut world));
+        world
     }
 
     /// The session, if every name that is used has its token stated.
@@ -213,7 +284,7 @@ impl Script {
             steps.push(Step { request: ask.resolve(&names)?, buffer: ask.buffer.clone() });
             ask.add_names(None, &mut names);
         }
-        Ok(Session { world: self.world.clone(), steps })
+        Ok(Session { world: self.world(), steps })
     }
 
     /// Expects these replies, names the tokens that they give, and uses the names from there on.
@@ -221,12 +292,21 @@ impl Script {
         let mut given: Vec<(String, u64)> = Vec::new();
         for (at, (ask, reply)) in self.asks.iter_mut().zip(replies).enumerate() {
             ask.use_names(&given);
-            let names = token_names(ask.words.operation, at + 1);
-            ask.expect(reply, names);
-            let expected = ask.expected.iter();
-            given.extend(expected.flat_map(Expected::named_tokens));
+            let [first, second] = token_names(ask.words.operation, at + 1);
+            let names = [first, second.filter(|_| reply.second != 0)];
+            let expected = Expected::of(ask.words.operation, reply, names);
+            given.extend(expected.named_tokens());
+            ask.expected = Some(expected);
         }
     }
+}
+
+/// All that is not zero in a world. A state is stated whole.
+fn start_of(world: &World) -> Vec<Standing> {
+    let zeros = World::zeros(world.table.len(), world.memory.len());
+    let state = (world.state != State::default()).then(|| StatedState::all(&world.state));
+    let rest = changes(&World { state: world.state, ..zeros }, world);
+    state.map(Standing::State).into_iter().chain(rest).collect()
 }
 
 impl Ask {
@@ -244,27 +324,26 @@ impl Ask {
             self.second = named(words.second, given);
         }
     }
-
-    fn expect(&mut self, reply: &Reply, names: [Option<String>; 2]) {
-        let granted = reply.refusal == 0;
-        let [first, second] = names.map(|name| name.filter(|_| granted));
-        let second = second.filter(|_| reply.second != 0);
-        let stated = |word: u64, name: &Option<String>| {
-            Some(word).filter(|word| *word != 0 || name.is_some())
-        };
-        self.expected = Some(Expected {
-            refusal: reply.refusal,
-            place: Some(reply.place).filter(|place| *place != 0),
-            first: stated(reply.first, &first),
-            second: stated(reply.second, &second),
-            number: Some(reply.dropped).filter(|number| *number != 0),
-            buffer: None,
-            names: [first, second],
-        });
-    }
 }
 
 impl Expected {
+    /// All that an answer gives, under these names. Zeros are not stated, but for drop's number.
+    pub fn of(operation: u64, reply: &Reply, names: [Option<String>; 2]) -> Expected {
+        let granted = reply.refusal == 0;
+        let dropped = granted && operation == Operation::Drop as u64;
+        let [first, second] = names.map(|name| name.filter(|_| granted));
+        let stated = |word: u64, named: bool| Some(word).filter(|word| *word != 0 || named);
+        Expected {
+            refusal: reply.refusal,
+            place: stated(reply.place, false),
+            first: stated(reply.first, first.is_some()),
+            second: stated(reply.second, second.is_some()),
+            number: stated(reply.dropped, dropped),
+            buffer: None,
+            names: [first, second],
+        }
+    }
+
     fn named_tokens(&self) -> Vec<(String, u64)> {
         let tokens = [self.first, self.second];
         let both = self.names.iter().cloned().zip(tokens);

@@ -1,6 +1,7 @@
 //! Single words: numbers, permissions, names and tokens.
 
 use super::script::Word;
+use crate::entry::Field;
 use crate::token::Token;
 
 /// A number, decimal or hex behind 0x; `_` may part digits.
@@ -55,19 +56,9 @@ pub fn permissions_text(permissions: u64) -> String {
     }
 }
 
-/// Words that cannot be names, since the format uses them.
-const RESERVED: [&str; 48] = [
+/// Words that cannot be names, since the lines of requests use them.
+const RESERVED: [&str; 34] = [
     "root",
-    "memory",
-    "entries",
-    "table",
-    "exact",
-    "state",
-    "entry",
-    "at",
-    "key",
-    "last",
-    "nonce",
     "reset",
     "read",
     "write",
@@ -82,6 +73,8 @@ const RESERVED: [&str; 48] = [
     "unlock",
     "revoke",
     "operation",
+    "key",
+    "nonce",
     "token",
     "second",
     "first",
@@ -97,14 +90,8 @@ const RESERVED: [&str; 48] = [
     "ancestor",
     "number",
     "as",
-    "direct",
-    "indirect",
-    "free",
-    "bytes",
-    "base",
-    "parent",
-    "count",
-    "tag",
+    "exact",
+    "entry",
 ];
 
 pub fn is_name(word: &str) -> bool {
@@ -169,4 +156,30 @@ pub fn suffixes(encoding: u64, usual: u64, offset: u64) -> String {
 pub fn is_root(word: u64) -> bool {
     let token = Token::unpack(word);
     (token.number, token.tag) == (0, 0)
+}
+
+/// The word of each field.
+const FIELDS: [(&str, Field); 13] = [
+    ("base", Field::Base),
+    ("length", Field::Length),
+    ("parent", Field::Parent),
+    ("count", Field::Count),
+    ("holder", Field::Holder),
+    ("user", Field::User),
+    ("zeros", Field::Zeros),
+    ("permissions", Field::Permissions),
+    ("locked", Field::Locked),
+    ("lockable", Field::Lockable),
+    ("cow", Field::Cow),
+    ("tag", Field::Tag),
+    ("nonce", Field::Nonce),
+];
+
+pub fn field_of(word: &str) -> Option<Field> {
+    FIELDS.iter().find(|(name, _)| *name == word).map(|(_, field)| *field)
+}
+
+/// The word of a field.
+pub fn field_name(field: Field) -> &'static str {
+    FIELDS.iter().find(|(_, other)| *other == field).map_or("", |(name, _)| name)
 }

@@ -1,0 +1,58 @@
+//! An answer in words, on one line.
+
+use bridge::{Operation, Reply};
+use session::play::{refusal_words, Played};
+use session::text::{bytes_text, token_text, Ask};
+
+/// A buffer is shown up to this length.
+const SHORT: usize = 32;
+
+/// Such as `3 ill-formed, an ancestor` or `0 granted, child=@1:0x1234`.
+pub fn answer_text(ask: &Ask, played: &Played) -> String {
+    let reply = &played.reply;
+    let mut parts = vec![format!("{} {}", reply.refusal, refusal_words(reply.refusal))];
+    parts.extend(place_text(reply.place));
+    let names = ask.expected.as_ref().map_or([None, None], |expected| {
+        [expected.names[0].as_deref(), expected.names[1].as_deref()]
+    });
+    parts.extend(token_part("first", names[0], reply.first));
+    parts.extend(token_part("second", names[1], reply.second));
+    parts.extend(number_text(played.request.operation, reply));
+    parts.extend(buffer_text(ask, played));
+    parts.join(", ")
+}
+
+fn place_text(place: u64) -> Option<String> {
+    match place {
+        0 => None,
+        1 => Some("the named entry".to_string()),
+        2 => Some("an ancestor".to_string()),
+        other => Some(format!("place {other}")),
+    }
+}
+
+fn token_part(place: &str, name: Option<&str>, token: u64) -> Option<String> {
+    match (name, token) {
+        (None, 0) => None,
+        (None, token) => Some(format!("{place} {}", token_text(token, 0))),
+        (Some(name), token) => Some(format!("{name}={}", token_text(token, 0))),
+    }
+}
+
+/// Drop's number, or a number that should not be there.
+fn number_text(operation: u64, reply: &Reply) -> Option<String> {
+    let dropped = operation == Operation::Drop as u64 && reply.refusal == 0;
+    (dropped || reply.dropped != 0).then(|| format!("number {}", reply.dropped))
+}
+
+/// What a read or a fetch gave, if it is short.
+fn buffer_text(ask: &Ask, played: &Played) -> Option<String> {
+    let operation = Operation::of(played.request.operation);
+    let filled = matches!(operation, Some(Operation::Read | Operation::Fetch));
+    let given = filled && played.reply.refusal == 0 || played.buffer != ask.buffer;
+    let text = match played.buffer.len() {
+        0..=SHORT => format!("buffer {}", bytes_text(&played.buffer)),
+        length => format!("buffer of {length} bytes"),
+    };
+    given.then_some(text)
+}

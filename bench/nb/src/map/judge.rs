@@ -1,0 +1,101 @@
+//! What each entry of a table is: free, ill-formed, a segment, or derived, alive or dead.
+
+use session::entry::{self, Bytes, Field, ENTRY};
+use session::token::{Token, PARENT_ENCODING};
+
+#[derive(Clone, Debug, PartialEq, Eq)]
+pub enum Judged {
+    Free,
+    IllFormed(&'static str),
+    Direct,
+    Indirect(Link),
+}
+
+/// Where a derived entry's line leads.
+#[derive(Clone, Debug, PartialEq, Eq)]
+pub enum Link {
+    /// To this parent, and from there to an owner.
+    Alive { parent: usize },
+    /// Nowhere, for this reason.
+    Dead(String),
+    /// To an ill-formed entry.
+    IllFormed(String),
+}
+
+/// Every entry of a table, judged.
+pub fn judge(table: &[u8], memory: usize) -> Vec<Judged> {
+    let entries: Vec<Bytes> =
+        (0..table.len() / ENTRY).filter_map(|at| entry::at(table, at)).collect();
+    let mut judged: Vec<Judged> = entries.iter().map(|entry| alone(entry, memory)).collect();
+    // The nonce falls at each link: by rising nonces every parent is judged before its children.
+    let mut order: Vec<usize> = (0..entries.len()).collect();
+    order.sort_by_key(|number| entry::nonce(&entries[*number]));
+    for number in order {
+        if let Judged::Indirect(_) = judged[number] {
+            judged[number] = Judged::Indirect(link(&entries, &judged, number));
+        }
+    }
+    judged
+}
+
+/// An entry by its own bytes; its line is not yet looked at.
+fn alone(entry: &Bytes, memory: usize) -> Judged {
+    match (entry::kind(entry), fault(entry, memory)) {
+        (entry::FREE, _) => Judged::Free,
+        (_, Some(fault)) => Judged::IllFormed(fault),
+        (entry::DIRECT, _) => Judged::Direct,
+        _ => Judged::Indirect(Link::Dead(String::new())),
+    }
+}
+
+/// What makes an entry ill-formed.
+fn fault(entry: &Bytes, memory: usize) -> Option<&'static str> {
+    let get = |field| entry::get(entry, field);
+    let (kind, end) = (entry::kind(entry), get(Field::Base) + get(Field::Length));
+    let (direct, indirect) = (kind == entry::DIRECT, kind == entry::INDIRECT);
+    let encoding = Token::unpack(get(Field::Parent)).encoding;
+    let flags = get(Field::Locked) + get(Field::Lockable);
+    let (holder, locked) = (get(Field::Holder) != 0, get(Field::Locked) != 0);
+    let faults = [
+        (kind > entry::INDIRECT, "its type is above 2"),
+        (get(Field::Length) == 0, "its length is 0"),
+        (end > memory as u64, "it ends past memory"),
+        (get(Field::Cow) != 0, "CoW is set"),
+        (indirect && get(Field::Zeros) != 0, "a one stands among its 55 zeros"),
+        (indirect && flags != 0, "it is derived, and Locked or Lockable is set"),
+        (indirect && encoding != PARENT_ENCODING, "its parent is not in encoding 1"),
+        (direct && locked && !holder, "it is locked without a holder"),
+        (direct && !locked && holder, "it has a holder without a lock"),
+    ];
+    faults.into_iter().find(|(found, _)| *found).map(|(_, fault)| fault)
+}
+
+/// Judges a link; the parent's own line was judged before if its nonce is lower.
+fn link(entries: &[Bytes], judged: &[Judged], number: usize) -> Link {
+    let child = &entries[number];
+    let parent = Token::unpack(entry::get(child, Field::Parent));
+    let at = usize::try_from(parent.number).unwrap_or(usize::MAX);
+    let Some(above) = entries.get(at) else {
+        return Link::Dead(format!("its parent #{} is beyond the table", parent.number));
+    };
+    let (tag, nonce) = (entry::tag(above), entry::nonce(above));
+    if judged[at] == Judged::Free {
+        return Link::Dead(format!("its parent #{at} is free"));
+    }
+    if tag != parent.tag {
+        let wanted = parent.tag;
+        return Link::Dead(format!("its parent #{at} holds tag {tag:#06x}, not {wanted:#06x}"));
+    }
+    if nonce >= entry::nonce(child) {
+        let own = entry::nonce(child);
+        return Link::Dead(format!("its parent #{at} has nonce {nonce}, which is not below {own}"));
+    }
+    match &judged[at] {
+        Judged::IllFormed(_) => Link::IllFormed(format!("its parent #{at} is ill-formed")),
+        Judged::Indirect(Link::Dead(_)) => Link::Dead(format!("its parent #{at} is dead")),
+        Judged::Indirect(Link::IllFormed(_)) => {
+            Link::IllFormed(format!("its parent #{at} leads to an ill-formed entry"))
+        }
+        _ => Link::Alive { parent: at },
+    }
+}

@@ -1,0 +1,232 @@
+//! Playing a script: asking its requests one by one, and comparing what is expected.
+
+use crate::text::{
+    changes, print_standing, token_text, Ask, EntryLine, Expected, Names, Script, Standing,
+    Unresolved, Word,
+};
+use crate::{entry, World};
+use bridge::{Reply, Words};
+
+/// Whoever serves requests: the proved code, the model, a simulator.
+pub trait Server {
+    fn serve(&mut self, request: &Words, world: &mut World, buffer: &mut [u8]) -> Reply;
+}
+
+/// The proved code.
+pub struct Proved;
+
+impl Server for Proved {
+    fn serve(&mut self, request: &Words, world: &mut World, buffer: &mut [u8]) -> Reply {
+        world.serve(request, buffer)
+    }
+}
+
+/// What came of one request.
+#[derive(Clone, Debug, PartialEq, Eq)]
+pub struct Played {
+    pub request: Words,
+    pub reply: Reply,
+    /// What stands in the buffer afterwards.
+    pub buffer: Vec<u8>,
+    pub changes: Vec<Standing>,
+    pub differences: Vec<Difference>,
+}
+
+/// Something that is not as expected.
+#[derive(Clone, Debug, PartialEq, Eq)]
+pub struct Difference {
+    pub what: String,
+    pub expected: String,
+    pub given: String,
+}
+
+impl Difference {
+    fn of_standing(expected: &Standing, given: &Standing) -> Difference {
+        let (expected, given) = (print_standing(expected), print_standing(given));
+        Difference { what: "what stands".to_string(), expected, given }
+    }
+}
+
+/// A script that is being played.
+pub struct Player<'a, S> {
+    server: &'a mut S,
+    exact: bool,
+    pub world: World,
+    pub names: Names,
+}
+
+impl<'a, S: Server> Player<'a, S> {
+    pub fn new(script: &Script, server: &'a mut S) -> Player<'a, S> {
+        Player { server, exact: script.exact, world: script.world(), names: Names::new() }
+    }
+
+    /// Asks one request. A request with a name that nobody gave is not asked.
+    pub fn play(&mut self, ask: &Ask) -> Result<Played, Unresolved> {
+        let request = ask.resolve(&self.names)?;
+        let before = self.world.clone();
+        let mut buffer = ask.buffer.clone();
+        let reply = self.server.serve(&request, &mut self.world, &mut buffer);
+        ask.add_names(Some(&reply), &mut self.names);
+        let mut differences = self.answer_differences(ask, &reply, &buffer);
+        differences.extend(self.standing_differences(ask, &before));
+        let changes = changes(&before, &self.world);
+        Ok(Played { request, reply, buffer, changes, differences })
+    }
+
+    /// Where answer and buffer are not as expected.
+    fn answer_differences(&self, ask: &Ask, reply: &Reply, buffer: &[u8]) -> Vec<Difference> {
+        let Some(expected) = &ask.expected else {
+            return Vec::new();
+        };
+        // In an exact script what is not stated is 0.
+        let stated = |word: Option<u64>| word.or(self.exact.then_some(0));
+        let words = [
+            ("refusal", Some(expected.refusal), reply.refusal),
+            ("place", stated(expected.place), reply.place),
+            ("first token", stated(expected.first), reply.first),
+            ("second token", stated(expected.second), reply.second),
+            ("number", stated(expected.number), reply.dropped),
+        ];
+        let differs = words
+            .into_iter()
+            .filter(|(_, expected, given)| expected.is_some_and(|word| word != *given));
+        let answer = differs.map(|(what, expected, given)| Difference {
+            what: what.to_string(),
+            expected: word_text(what, expected.unwrap_or(0)),
+            given: word_text(what, given),
+        });
+        answer.chain(self.buffer_difference(ask, expected, buffer)).collect()
+    }
+
+    fn buffer_difference(
+        &self,
+        ask: &Ask,
+        expected: &Expected,
+        given: &[u8],
+    ) -> Option<Difference> {
+        let kept = self.exact.then_some(&ask.buffer);
+        let expected = expected.buffer.as_ref().or(kept)?;
+        (expected != given).then(|| Difference {
+            what: "buffer".to_string(),
+            expected: crate::text::bytes_text(expected),
+            given: crate::text::bytes_text(given),
+        })
+    }
+
+    /// Where state, table and memory are not as expected. In an exact script all that no line
+    /// states is as before.
+    fn standing_differences(&self, ask: &Ask, before: &World) -> Vec<Difference> {
+        if ask.standing.is_empty() && !self.exact {
+            return Vec::new();
+        }
+        let mut expected = if self.exact { before.clone() } else { self.world.clone() };
+        ask.standing.iter().for_each(|standing| standing.put(&mut expected));
+        let wanted = changes(&self.world, &expected);
+        let given = changes(&expected, &self.world);
+        let both = wanted.iter().zip(&given);
+        let differing = both.map(|(wanted, given)| Difference::of_standing(wanted, given));
+        differing.chain(self.fieldless(ask)).collect()
+    }
+
+    /// Entries whose type has not the fields that are stated of them.
+    fn fieldless(&self, ask: &Ask) -> Vec<Difference> {
+        let stated = ask.standing.iter().filter_map(|standing| {
+            let Standing::Entry { number, line: EntryLine::Fields(fields) } = standing else {
+                return None;
+            };
+            let given = entry::at(&self.world.table, *number)?;
+            let lacking = fields.iter().any(|(field, _)| entry::width(&given, *field).is_none());
+            let line = EntryLine::Whole(given);
+            lacking.then(|| {
+                Difference::of_standing(standing, &Standing::Entry { number: *number, line })
+            })
+        });
+        stated.collect()
+    }
+}
+
+fn word_text(what: &str, word: u64) -> String {
+    match (what, word) {
+        ("place", 1) => "the named entry".to_string(),
+        ("place", 2) => "an ancestor".to_string(),
+        ("place", 0) => "none".to_string(),
+        ("refusal", _) => format!("{word} ({})", refusal_words(word)),
+        ("first token" | "second token", 0) => "0".to_string(),
+        ("first token" | "second token", _) => token_text(word, 0),
+        _ => word.to_string(),
+    }
+}
+
+/// What a refusal's number means.
+pub fn refusal_words(refusal: u64) -> &'static str {
+    match refusal {
+        0 => "granted",
+        1 => "bad request",
+        2 => "no such entry",
+        3 => "ill-formed",
+        4 => "dead line",
+        5 => "locked for another task",
+        6 => "not a direct entry",
+        7 => "right lacking",
+        8 => "out of bounds",
+        9 => "standing forbids it",
+        10 => "no free number",
+        11 => "too few nonces",
+        _ => "no refusal of the interface",
+    }
+}
+
+/// A script with everything that a server gives stated, so that each byte is fixed. What the script
+/// expected before must have come true; else the differences are handed back, with the request's
+/// line.
+pub fn record<S: Server>(script: &Script, server: &mut S) -> Result<Script, NotRecorded> {
+    let mut player = Player::new(script, server);
+    let mut recorded = Script { exact: true, ..script.clone() };
+    for ask in &mut recorded.asks {
+        let played = player
+            .play(ask)
+            .map_err(|unresolved| NotRecorded::Unresolved { line: ask.line, unresolved })?;
+        if !played.differences.is_empty() {
+            let differences = played.differences;
+            return Err(NotRecorded::Differs { line: ask.line, differences });
+        }
+        state_all(ask, played);
+    }
+    Ok(recorded)
+}
+
+/// Why a script was not recorded.
+#[derive(Clone, Debug, PartialEq, Eq)]
+pub enum NotRecorded {
+    Unresolved { line: usize, unresolved: Unresolved },
+    Differs { line: usize, differences: Vec<Difference> },
+}
+
+/// States the answer, the buffer if it changed, and all that changed. Names stay.
+fn state_all(ask: &mut Ask, played: Played) {
+    let Played { reply, buffer, changes, .. } = played;
+    let names = ask.expected.take().map_or([None, None], |expected| expected.names);
+    let buffer = Some(buffer).filter(|buffer| *buffer != ask.buffer);
+    ask.expected = Some(Expected { buffer, ..Expected::of(ask.words.operation, &reply, names) });
+    ask.standing = changes;
+}
+
+/// The least first key word of the first request, a reset, with which a script goes as it expects:
+/// the way to sessions that come by chance only.
+pub fn search<S: Server>(script: &Script, server: &mut S, limit: u64) -> Option<u64> {
+    let mut script = script.clone();
+    (0..limit).find(|key| {
+        if let Some(reset) = script.asks.first_mut() {
+            reset.token = Word::Number(*key);
+        }
+        goes_as_expected(&script, server)
+    })
+}
+
+/// Whether nothing differs from what a script expects; it ends at the first difference.
+pub fn goes_as_expected<S: Server>(script: &Script, server: &mut S) -> bool {
+    let mut player = Player::new(script, server);
+    let mut as_expected =
+        |ask: &Ask| player.play(ask).is_ok_and(|played| played.differences.is_empty());
+    script.asks.iter().all(&mut as_expected)
+}

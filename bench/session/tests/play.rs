@@ -1,0 +1,122 @@
+//! Playing scripts: what is expected, and what is marked.
+
+use session::play::{goes_as_expected, record, Player, Proved};
+use session::text::{parse, print_script, Script, Unresolved};
+
+fn script(lines: &str) -> Script {
+    let text = format!("memory 64 entries 4\nreset nonce 1\n{lines}");
+    parse(&text).unwrap_or_else(|error| panic!("{error}\n{text}"))
+}
+
+/// The differences of the last request, as `what: expected / given`.
+fn differences(lines: &str) -> Vec<String> {
+    let script = script(lines);
+    let mut proved = Proved;
+    let mut player = Player::new(&script, &mut proved);
+    let mut last = Vec::new();
+    for ask in &script.asks {
+        last = player.play(ask).expect("every name is given").differences;
+    }
+    last.iter().map(|one| format!("{}: {} / {}", one.what, one.expected, one.given)).collect()
+}
+
+#[test]
+fn as_expected() {
+    assert_eq!(differences("read root 4 -> 0 buffer 00*4"), [""; 0]);
+    assert_eq!(differences("derive root length 4 permissions R -> 0 as child"), [""; 0]);
+    assert_eq!(differences("clone root -> granted\n= entry 0 count 1\n= state last 0"), [""; 0]);
+    assert_eq!(differences("write root+3 aabb -> 0\n= at 3 aabb\n= at 0 00*3"), [""; 0]);
+    assert_eq!(differences("lock root task 5 -> 0\n= entry 0 locked holder 5"), [""; 0]);
+    assert_eq!(differences("drop root -> 9\n= entry 1 free"), [""; 0]);
+}
+
+#[test]
+fn what_differs_is_told() {
+    let refusal = ["refusal: 5 (locked for another task) / 0 (granted)"];
+    assert_eq!(differences("read root 1 -> 5"), refusal);
+    assert_eq!(differences("drop root -> 9 named"), ["place: the named entry / none"]);
+    assert_eq!(differences("clone root\ndrop root -> 0 number 0"), ["number: 0 / 1"]);
+    assert_eq!(differences("read root 2 -> 0 buffer 0001"), ["buffer: 0001 / 0000"]);
+    assert_eq!(differences("clone root -> 0 first @1:2"), ["first token: @1:0x0002 / 0"]);
+    let count = ["what stands: entry 0 count 2 / entry 0 count 1"];
+    assert_eq!(differences("clone root\n= entry 0 count 2"), count);
+    assert_eq!(differences("clone root\n= at 5 07"), ["what stands: at 5 07 / at 5 00"]);
+    let state = ["what stands: state last 3 nonce 5 / state last 0 nonce 1"];
+    assert_eq!(differences("clone root\n= state last 3 nonce 5"), state);
+    assert_eq!(differences("clone root\n= table 32 01").len(), 1);
+}
+
+/// A field that the entry's type does not have is a difference, even if it is stated as zero.
+#[test]
+fn fields_that_are_not_there() {
+    let free = ["what stands: entry 1 count 0 / entry 1 free"];
+    assert_eq!(differences("clone root\n= entry 1 count 0"), free);
+    assert_eq!(differences("clone root\n= entry 0 parent root count 1").len(), 1);
+}
+
+#[test]
+fn names_stand_for_what_is_given_or_stated() {
+    let given = "derive root length 4 permissions R -> 0 as child\nread child/2+3 1 -> 0";
+    assert_eq!(differences(given), [""; 0]);
+    let stated = "derive root length 4 permissions R -> 0 as child=@3:7\nread child 1 -> 2";
+    assert_eq!(differences(stated), [""; 0]);
+    let refused = script("derive root length 0 permissions R -> 0 as child\nread child 1");
+    let mut proved = Proved;
+    let mut player = Player::new(&refused, &mut proved);
+    assert!(player.play(&refused.asks[0]).is_ok());
+    assert_eq!(player.play(&refused.asks[1]).unwrap().differences.len(), 1);
+    let not_given = Unresolved::NotGiven("child".to_string());
+    assert_eq!(player.play(&refused.asks[2]), Err(not_given));
+    let wide =
+        script("derive root length 4 permissions R encoding 1 -> 0 as child\nread child+1 1");
+    let mut player = Player::new(&wide, &mut proved);
+    assert!(player.play(&wide.asks[0]).is_ok() && player.play(&wide.asks[1]).is_ok());
+    assert_eq!(player.play(&wide.asks[2]), Err(Unresolved::DoesNotFit("child".to_string())));
+}
+
+/// A recorded script fixes every byte: one bit changed anywhere in it is noticed.
+#[test]
+fn a_recorded_script_is_exact() {
+    let source =
+        "write root 0102 -> 0\nread root 3 -> 0\nderive root length 4 permissions R -> 0 as c";
+    let recorded = record(&script(source), &mut Proved).expect("it goes as stated");
+    let text = print_script(&recorded);
+    assert!(goes_as_expected(&recorded, &mut Proved));
+    let changes = [
+        ("= at 0 0102\n", ""),
+        ("= at 0 0102\n", "= at 0 0102\n= at 9 01\n"),
+        ("buffer 010200", "buffer 010201"),
+        (" buffer 010200", ""),
+        ("= state last 1 nonce 2\n", "= state last 1\n"),
+        ("= entry 0 count 1\n", ""),
+        ("= entry 0 count 1\n", "= entry 0 count 1 cow\n"),
+        ("= entry 1 indirect base 0", "= entry 1 indirect base 1"),
+        ("-> 0 as c=@1", "-> 0 as c=@2"),
+        (" as c=@", " second @"),
+    ];
+    for (old, new) in changes {
+        assert!(text.contains(old), "{old} in\n{text}");
+        let changed = parse(&text.replacen(old, new, 1)).expect("a session");
+        assert!(!goes_as_expected(&changed, &mut Proved), "{old} by {new}");
+    }
+}
+
+#[test]
+fn what_does_not_come_true_is_not_recorded() {
+    assert!(record(&script("read root 1 -> 5"), &mut Proved).is_err());
+    assert!(record(&script("read root 1\n= at 0 01"), &mut Proved).is_err());
+}
+
+/// Comments and names are kept.
+#[test]
+fn recording_keeps_comments() {
+    let text = "# about\n\nmemory 64 entries 2  # small\n# bytes\nat 3 05  # five\n# first\n\
+                reset nonce 1  # go\n# end\n";
+    let script = parse(text).expect("a session");
+    let recorded = print_script(&record(&script, &mut Proved).expect("it goes"));
+    for comment in
+        ["# about\n\nmem", "# small", "# bytes\nat", "# five", "# first\nres", "# go", "# end\n"]
+    {
+        assert!(recorded.contains(comment), "{comment} in\n{recorded}");
+    }
+}
