@@ -244,10 +244,15 @@ impl<'a> Player<'a> {
 }
 
 impl fmt::Display for Found {
-    /// The difference, then the session in the replay format with what the proved code answers.
+    /// The difference as comments, then the session in the replay format with what the proved code
+    /// answers.
     fn fmt(&self, f: &mut fmt::Formatter<'_>) -> fmt::Result {
         let requests = self.session.steps.len();
-        writeln!(f, "After request {requests} {}\n", self.difference)?;
+        let text = format!("After request {requests} {}", self.difference);
+        for line in text.lines() {
+            writeln!(f, "# {line}")?;
+        }
+        writeln!(f)?;
         let mut world = self.session.world.clone();
         let steps = self.session.steps.iter();
         let replies = steps.map(|step| world.serve(&step.request, &mut step.buffer.clone()));

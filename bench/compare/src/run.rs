@@ -169,16 +169,21 @@ fn grouped(number: u64) -> String {
 }
 
 impl fmt::Display for Outcome {
+    /// What a run came to. At a difference all but the session is comments, so that the whole can be
+    /// replayed.
     fn fmt(&self, f: &mut fmt::Formatter<'_>) -> fmt::Result {
-        if self.show_coverage {
-            writeln!(f, "{}\n", self.coverage)?;
-        }
         let other = &self.other;
-        match &self.found {
-            None => writeln!(f, "The proved code and the {other} agree.")?,
-            Some(found) => writeln!(f, "The proved code and the {other} differ.\n\n{found}")?,
+        let mut notes = throughput(self.requests, self.sessions, self.time);
+        if self.show_coverage {
+            notes = format!("{notes}\n\n{}", self.coverage);
         }
-        writeln!(f, "{}", throughput(self.requests, self.sessions, self.time))
+        match &self.found {
+            None => writeln!(f, "The proved code and the {other} agree.\n{notes}"),
+            Some(found) => {
+                writeln!(f, "# The proved code and the {other} differ.\n{found}\n")?;
+                notes.lines().try_for_each(|line| writeln!(f, "# {line}"))
+            }
+        }
     }
 }
 
