@@ -45,7 +45,7 @@ fn folder(test: &str) -> PathBuf {
 fn help_shows_an_example_for_each_command() {
     let (status, text, _) = run(&["--help"], "");
     assert_eq!(status, 0);
-    for command in ["replay", "record", "search"] {
+    for command in ["replay", "compare", "record", "search"] {
         assert!(text.contains(&format!("for example: nb {command}")), "{text}");
         let (status, help, _) = run(&[command, "--help"], "");
         assert_eq!(status, 0);

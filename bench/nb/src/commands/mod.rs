@@ -5,14 +5,26 @@ use std::io::{self, Write};
 
 use crate::arguments::Arguments;
 
+mod compare;
 mod record;
 mod replay;
 mod search;
+mod serve;
+mod stack;
+mod time;
 
 pub use record::recorded;
 
 /// Every command. A further one is a module above and a line here.
-pub const COMMANDS: &[&Command] = &[&replay::COMMAND, &record::COMMAND, &search::COMMAND];
+pub const COMMANDS: &[&Command] = &[
+    &replay::COMMAND,
+    &compare::COMMAND,
+    &serve::COMMAND,
+    &record::COMMAND,
+    &search::COMMAND,
+    &time::COMMAND,
+    &stack::COMMAND,
+];
 
 pub struct Command {
     pub name: &'static str,

@@ -1,0 +1,122 @@
+//! A session as the shrinker holds it: tokens that an earlier request gave are held as such, so that
+//! they stay right when the requests before them change.
+
+use bridge::{Operation, Reply, Words};
+use session::{Session, Step, World};
+
+use crate::entry;
+use crate::pair::Pair;
+use crate::player::Found;
+
+/// Where a token word comes from.
+#[derive(Clone, Copy, Debug, PartialEq, Eq)]
+pub enum Source {
+    /// The word itself.
+    Word,
+    /// The token that a request gave, with another encoding or offset, or bits of its tag flipped.
+    Given { part: usize, second: bool, encoding: u64, offset: u64, flip: u64 },
+}
+
+/// A request of a draft. Its name stays when others are left out.
+#[derive(Clone, Debug, PartialEq, Eq)]
+pub struct Part {
+    pub name: usize,
+    pub request: Words,
+    pub buffer: Vec<u8>,
+    pub token: Source,
+    pub second: Source,
+}
+
+#[derive(Clone, Debug, PartialEq, Eq)]
+pub struct Draft {
+    pub world: World,
+    pub parts: Vec<Part>,
+}
+
+/// The replies so far, by the parts' names.
+type Replies = Vec<(usize, Reply)>;
+
+impl Draft {
+    /// The draft of a session, whose tokens are looked up among what the proved code answers.
+    pub fn of(session: &Session) -> Draft {
+        let mut world = session.world.clone();
+        let mut replies = Replies::new();
+        let mut parts = Vec::new();
+        for (name, step) in session.steps.iter().enumerate() {
+            let Step { request, buffer } = step.clone();
+            let token = source(&replies, request.operation, request.token);
+            let second = match Operation::of(request.operation) {
+                Some(Operation::Merge) => source(&replies, request.operation, request.second),
+                _ => Source::Word,
+            };
+            parts.push(Part { name, request, buffer, token, second });
+            let reply = world.serve(&request, &mut step.buffer.clone());
+            replies.push((name, reply));
+        }
+        Draft { world: session.world.clone(), parts }
+    }
+
+    /// Plays the draft; the session up to the first difference, if there is one.
+    pub fn play(&self, pair: &mut Pair) -> Option<Found> {
+        let mut session = Session { world: self.world.clone(), steps: Vec::new() };
+        let mut replies = Replies::new();
+        if let Err(difference) = pair.begin(&self.world) {
+            return Some(Found { session, difference });
+        }
+        for part in &self.parts {
+            let request = part.resolve(&replies);
+            session.steps.push(Step { request, buffer: part.buffer.clone() });
+            match pair.ask(&request, &part.buffer) {
+                Ok(reply) => replies.push((part.name, reply)),
+                Err(difference) => return Some(Found { session, difference }),
+            }
+        }
+        None
+    }
+
+    /// Whether the first request is a reset.
+    pub fn begins_with_reset(&self) -> bool {
+        self.parts.first().is_some_and(|part| part.request.operation == Operation::Reset as u64)
+    }
+}
+
+impl Part {
+    fn resolve(&self, replies: &Replies) -> Words {
+        let token = self.token.resolve(self.request.token, replies);
+        let second = self.second.resolve(self.request.second, replies);
+        Words { token, second, ..self.request }
+    }
+}
+
+impl Source {
+    /// The word; the one that was written down if the giving request is no longer there.
+    fn resolve(self, word: u64, replies: &Replies) -> u64 {
+        let Source::Given { part, second, encoding, offset, flip } = self else {
+            return word;
+        };
+        let Some((_, reply)) = replies.iter().find(|(name, _)| *name == part) else {
+            return word;
+        };
+        let given = if second { reply.second } else { reply.first };
+        let [_, tag, number, _] = entry::unpack(given);
+        entry::pack(encoding, tag ^ flip, number, offset)
+    }
+}
+
+/// The latest request that gave a token of this number and tag, or of a tag with one bit flipped.
+fn source(replies: &Replies, operation: u64, word: u64) -> Source {
+    let [encoding, tag, number, offset] = entry::unpack(word);
+    if operation == Operation::Reset as u64 || (tag, number) == (0, 0) {
+        return Source::Word;
+    }
+    for (name, reply) in replies.iter().rev() {
+        for (second, given) in [(false, reply.first), (true, reply.second)] {
+            let [_, given_tag, given_number, _] = entry::unpack(given);
+            let flip = tag ^ given_tag;
+            if given != 0 && number == given_number && flip.count_ones() < 2 {
+                return Source::Given { part: *name, second, encoding, offset, flip };
+            }
+        }
+    }
+    Source::Word
+}

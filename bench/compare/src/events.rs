@@ -1,0 +1,172 @@
+//! Rare events that the answers alone do not show: how often the generator reached what it searched
+//! for.
+
+use std::fmt;
+
+use bridge::{Operation, Reply, State, Words};
+
+use crate::entry::{self, Entry};
+use crate::machine::Machine;
+use crate::worlds::SPENT;
+
+/// What is looked for.
+#[derive(Clone, Copy, Debug, PartialEq, Eq)]
+pub enum Event {
+    PassedOne,
+    PassedTwo,
+    RefusedByPassing,
+    RestWithTagZero,
+    LinkRefusedByNonce,
+    NumbersWentRound,
+    LastNumberAgain,
+    RootFreed,
+    CountAtTop,
+    LargestMemory,
+    LargestTable,
+    TooMuchMemory,
+    TooManyEntries,
+    DeepestLine,
+}
+
+pub const EVENTS: [(Event, &str); 14] = [
+    (Event::PassedOne, "a revoke passed over one nonce"),
+    (Event::PassedTwo, "a revoke passed over two nonces"),
+    (Event::RefusedByPassing, "a revoke was refused since all nonces left were passed over"),
+    (Event::RestWithTagZero, "a root's rest got tag 0"),
+    (Event::LinkRefusedByNonce, "a link with the right tag was missing by its nonce alone"),
+    (Event::NumbersWentRound, "the numbers went round"),
+    (Event::LastNumberAgain, "the number given last was given again"),
+    (Event::RootFreed, "number 0 was freed"),
+    (Event::CountAtTop, "a count came to 65,535"),
+    (Event::LargestMemory, "a request over 16,777,216 bytes was granted"),
+    (Event::LargestTable, "a request over 1,024 entries was granted"),
+    (Event::TooMuchMemory, "a request over 16,777,217 bytes was refused"),
+    (Event::TooManyEntries, "a request over 1,025 entries was refused"),
+    (Event::DeepestLine, "a line of 1,023 links was walked"),
+];
+
+#[derive(Clone, Debug, Default, PartialEq, Eq)]
+pub struct Events([u64; EVENTS.len()]);
+
+impl Events {
+    /// Looks at a request that was served; the machine stands as it was left.
+    pub fn count(
+        &mut self,
+        request: &Words,
+        reply: &Reply,
+        before: State,
+        root_before: bool,
+        machine: &dyn Machine,
+    ) {
+        let seen = Seen { request, reply, before, after: machine.state(), root_before, machine };
+        match Operation::of(request.operation) {
+            Some(Operation::Revoke) => self.revoke(&seen),
+            Some(Operation::Create | Operation::Derive | Operation::ExecuteOnly) => {
+                self.given(&seen);
+            }
+            Some(Operation::Clone) => self.add(Event::CountAtTop, seen.count_at_top()),
+            Some(Operation::Read) => {
+                self.add(Event::LinkRefusedByNonce, seen.link_refused_by_nonce());
+                self.add(Event::DeepestLine, seen.deepest_line());
+            }
+            _ => {}
+        }
+        let memory = (reply.refusal, machine.memory().len());
+        self.add(Event::LargestMemory, memory == (0, 1 << 24));
+        self.add(Event::TooMuchMemory, memory == (1, (1 << 24) + 1));
+        let table = (reply.refusal, machine.table().len());
+        self.add(Event::LargestTable, table == (0, 1_024 * entry::SIZE));
+        self.add(Event::TooManyEntries, table == (1, 1_025 * entry::SIZE));
+    }
+
+    fn add(&mut self, event: Event, seen: bool) {
+        self.0[event as usize] += u64::from(seen);
+    }
+
+    fn revoke(&mut self, seen: &Seen) {
+        let used = seen.after.next_nonce.wrapping_sub(seen.before.next_nonce);
+        self.add(Event::PassedOne, used == 2);
+        self.add(Event::PassedTwo, used == 3);
+        let left = seen.before.next_nonce < SPENT;
+        self.add(Event::RefusedByPassing, seen.reply.refusal == 11 && left);
+    }
+
+    fn given(&mut self, seen: &Seen) {
+        if seen.reply.refusal != 0 {
+            return;
+        }
+        let (before, after) = (seen.before.last_number, seen.after.last_number);
+        self.add(Event::NumbersWentRound, after < before);
+        self.add(Event::LastNumberAgain, after == before);
+        let create = seen.request.operation == Operation::Create as u64;
+        let root = seen.entry(0);
+        self.add(Event::RootFreed, create && seen.root_before && root.is_free());
+        let of_root = create && seen.named() == 0 && !root.is_free();
+        self.add(Event::RestWithTagZero, of_root && root.get(entry::TAG) == 0);
+    }
+
+    /// What was not reached, as text.
+    pub fn missing(&self) -> Vec<String> {
+        let missing = EVENTS.iter().filter(|(event, _)| self.0[*event as usize] == 0);
+        missing.map(|(_, name)| (*name).to_string()).collect()
+    }
+}
+
+/// One request with what was before and after it.
+struct Seen<'a> {
+    request: &'a Words,
+    reply: &'a Reply,
+    before: State,
+    after: State,
+    /// Whether number 0 was in use.
+    root_before: bool,
+    machine: &'a dyn Machine,
+}
+
+impl Seen<'_> {
+    fn named(&self) -> usize {
+        entry::unpack(self.request.token)[2] as usize
+    }
+
+    fn entry(&self, number: usize) -> Entry {
+        Entry::of(self.machine.table(), number)
+    }
+
+    fn count_at_top(&self) -> bool {
+        self.reply.refusal == 0 && self.entry(self.named()).count() == 65_535
+    }
+
+    /// The named entry's parent is there with the tag that the link names.
+    fn link_refused_by_nonce(&self) -> bool {
+        if (self.reply.refusal, self.reply.place) != (4, 1) {
+            return false;
+        }
+        let [_, tag, number, _] = entry::unpack(self.entry(self.named()).get(entry::PARENT));
+        let parent = self.entry(number as usize);
+        !parent.is_free() && parent.get(entry::TAG) == tag
+    }
+
+    fn deepest_line(&self) -> bool {
+        let deep = self.machine.table().len() == 1_024 * entry::SIZE && self.reply.refusal == 0;
+        deep && self.links() == 1_023
+    }
+
+    /// How many links stand above the named entry, whose line is whole.
+    fn links(&self) -> usize {
+        let above = |entry: &Entry| {
+            let parent = entry::unpack(entry.get(entry::PARENT))[2] as usize;
+            Some(self.entry(parent)).filter(|_| entry.kind() == entry::INDIRECT)
+        };
+        std::iter::successors(Some(self.entry(self.named())), above).skip(1).take(1_024).count()
+    }
+}
+
+impl fmt::Display for Events {
+    fn fmt(&self, f: &mut fmt::Formatter<'_>) -> fmt::Result {
+        for (at, (event, name)) in EVENTS.iter().enumerate() {
+            let end = if at == 0 { "" } else { "\n" };
+            write!(f, "{end}{:>10}  {name}", self.0[*event as usize])?;
+        }
+        Ok(())
+    }
+}

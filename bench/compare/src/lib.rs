@@ -1,0 +1,37 @@
+//! Compares the proved northbridge with the model, or with any program that speaks the line
+//! protocol, over sessions that look where nobody looked.
+//!
+//! `run` plays sessions until the wanted number of requests, and shrinks what it finds; `serve`
+//! speaks the line protocol with the proved code.
+
+mod command;
+mod coverage;
+mod dice;
+mod difference;
+mod draft;
+mod entry;
+mod events;
+mod fault;
+mod guard;
+mod kinds;
+mod machine;
+mod pair;
+mod player;
+pub mod protocol;
+mod run;
+mod server;
+mod shrink;
+mod wild;
+mod worlds;
+
+pub use command::Simulator;
+pub use coverage::{possible, Coverage, CASES, OPERATIONS};
+pub use difference::Difference;
+pub use guard::{Guard, Guarded};
+pub use kinds::{Kind, ALL as KINDS};
+pub use machine::{Machine, Model, Proved, Trouble};
+pub use pair::Pair;
+pub use player::Found;
+pub use run::{compare, run, Options, Outcome};
+pub use server::serve;
+pub use shrink::shrink;

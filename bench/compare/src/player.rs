@@ -1,0 +1,262 @@
+//! A player of sessions: it asks both machines, writes down what it asked, and stops at the first
+//! difference. A kind of session is a function over a player; it sees what stands now, so that it
+//! can choose the next request by it.
+
+use std::fmt;
+
+use bridge::{Operation, Reply, Words};
+use session::{Session, Step, World};
+
+use crate::coverage::Coverage;
+use crate::dice::Dice;
+use crate::difference::Difference;
+use crate::entry::{self, Entry};
+use crate::pair::Pair;
+
+/// A session, cut off after the request that shows the difference.
+#[derive(Clone, Debug, PartialEq, Eq)]
+pub struct Found {
+    pub session: Session,
+    pub difference: Difference,
+}
+
+pub struct Player<'a> {
+    pub dice: Dice,
+    /// Words that a request does not use are set to rubbish.
+    pub rubbish: bool,
+    /// The tokens that this session's requests gave, the last one at the end.
+    pub given: Vec<u64>,
+    pair: &'a mut Pair,
+    coverage: &'a mut Coverage,
+    log: Session,
+    left: u64,
+    found: Option<Found>,
+}
+
+/// What a player answers once it has stopped.
+const STOPPED: Reply = Reply { refusal: 1, place: 0, first: 0, second: 0, dropped: 0 };
+
+/// For each operation, which of the words after the first it uses: token, second, task, length,
+/// user, permissions, encoding.
+const USED: [[bool; 7]; 13] = [
+    used("ts#...."),
+    used("t.#...."),
+    used("t.#...."),
+    used("t.#...."),
+    used("t.#lupe"),
+    used("ts#...e"),
+    used("ts.l.pe"),
+    used("t.....e"),
+    used("t......"),
+    used("t......"),
+    used("t.#...."),
+    used("t.#...."),
+    used("t.....e"),
+];
+
+const fn used(marks: &str) -> [bool; 7] {
+    let marks = marks.as_bytes();
+    let mut used = [false; 7];
+    let mut at = 0;
+    while at < used.len() {
+        used[at] = marks[at] != b'.';
+        at += 1;
+    }
+    used
+}
+
+impl<'a> Player<'a> {
+    /// A player that asks at most `left` requests.
+    pub fn new(dice: Dice, pair: &'a mut Pair, coverage: &'a mut Coverage, left: u64) -> Self {
+        let log = Session { world: World::zeros(0, 0), steps: Vec::new() };
+        let given = Vec::new();
+        Player { dice, rubbish: false, given, pair, coverage, log, left, found: None }
+    }
+
+    /// How many requests are left, and the difference, if there was one.
+    pub fn end(self) -> (u64, Option<Found>) {
+        (self.left, self.found)
+    }
+
+    /// True when nothing more is asked.
+    pub fn over(&self) -> bool {
+        self.left == 0 || self.found.is_some()
+    }
+
+    /// Begins a session over a world.
+    pub fn begin(&mut self, world: World) {
+        if self.over() {
+            return;
+        }
+        self.log.world = world;
+        self.log.steps.clear();
+        self.given.clear();
+        if let Err(difference) = self.pair.begin(&self.log.world) {
+            self.stop(difference);
+        }
+    }
+
+    fn stop(&mut self, difference: Difference) {
+        let empty = Session { world: World::zeros(0, 0), steps: Vec::new() };
+        let session = std::mem::replace(&mut self.log, empty);
+        self.found = Some(Found { session, difference });
+    }
+
+    pub fn ask_with(&mut self, mut request: Words, buffer: Vec<u8>) -> Reply {
+        if self.over() {
+            return STOPPED;
+        }
+        if self.rubbish {
+            request = self.with_rubbish(request);
+        }
+        self.left -= 1;
+        let (before, root) = (self.state(), !self.entry(0).is_free());
+        self.log.steps.push(Step { request, buffer });
+        let buffer = self.log.steps.last().map_or(&[][..], |step| &step.buffer);
+        match self.pair.ask(&request, buffer) {
+            Ok(reply) => {
+                self.coverage.count(request.operation, &reply);
+                let machine = self.pair.reference.as_ref();
+                self.coverage.events.count(&request, &reply, before, root, machine);
+                self.keep(request.operation, &reply);
+                reply
+            }
+            Err(difference) => {
+                self.stop(difference);
+                STOPPED
+            }
+        }
+    }
+
+    pub fn ask(&mut self, request: Words) -> Reply {
+        self.ask_with(request, Vec::new())
+    }
+
+    fn keep(&mut self, operation: u64, reply: &Reply) {
+        let gives = matches!(operation, 4..=7 | 12) && reply.refusal == 0;
+        if !gives {
+            return;
+        }
+        self.given.push(reply.first);
+        if reply.second != 0 {
+            self.given.push(reply.second);
+        }
+    }
+
+    fn with_rubbish(&mut self, request: Words) -> Words {
+        let mut words = request.in_order();
+        let Some(used) = USED.get(request.operation as usize) else {
+            return request;
+        };
+        for (word, _) in words[1..].iter_mut().zip(used).filter(|(_, used)| !**used) {
+            *word = self.dice.word();
+        }
+        Words::from_order(words)
+    }
+
+    // What stands now.
+
+    pub fn state(&self) -> bridge::State {
+        self.pair.reference.state()
+    }
+
+    pub fn table(&self) -> &[u8] {
+        self.pair.reference.table()
+    }
+
+    pub fn memory(&self) -> &[u8] {
+        self.pair.reference.memory()
+    }
+
+    pub fn entries(&self) -> usize {
+        self.table().len() / entry::SIZE
+    }
+
+    pub fn entry(&self, number: usize) -> Entry {
+        Entry::of(self.table(), number)
+    }
+
+    /// The present token of a number, in encoding 0.
+    pub fn token(&self, number: usize) -> u64 {
+        self.entry(number).token(number, 0)
+    }
+
+    /// The world as it stands now.
+    pub fn world(&self) -> World {
+        let (table, memory) = (self.table().to_vec(), self.memory().to_vec());
+        World { state: self.state(), table, memory }
+    }
+
+    // Requests, by their operation.
+
+    pub fn reset(&mut self, key: [u64; 2], first_nonce: u64) -> Reply {
+        let operation = Operation::Reset as u64;
+        let [token, second] = key;
+        self.ask(Words { operation, token, second, task: first_nonce, ..Words::default() })
+    }
+
+    pub fn read(&mut self, token: u64, length: usize, task: u64) -> Reply {
+        let operation = Operation::Read as u64;
+        self.ask_with(Words { operation, token, task, ..Words::default() }, vec![0xB5; length])
+    }
+
+    pub fn fetch(&mut self, token: u64, length: usize, task: u64) -> Reply {
+        let operation = Operation::Fetch as u64;
+        self.ask_with(Words { operation, token, task, ..Words::default() }, vec![0x5B; length])
+    }
+
+    /// Writes bytes of its own.
+    pub fn write(&mut self, token: u64, length: usize, task: u64) -> Reply {
+        let operation = Operation::Write as u64;
+        let buffer = self.dice.bytes(length);
+        self.ask_with(Words { operation, token, task, ..Words::default() }, buffer)
+    }
+
+    pub fn create(&mut self, token: u64, length: u64, permissions: u64) -> Reply {
+        let operation = Operation::Create as u64;
+        let encoding = self.dice.below(4);
+        self.ask(Words { operation, token, length, permissions, encoding, ..Words::default() })
+    }
+
+    pub fn merge(&mut self, token: u64, second: u64) -> Reply {
+        let operation = Operation::Merge as u64;
+        let encoding = self.dice.below(4);
+        self.ask(Words { operation, token, second, encoding, ..Words::default() })
+    }
+
+    pub fn derive(&mut self, token: u64, offset: u64, length: u64, permissions: u64) -> Reply {
+        let operation = Operation::Derive as u64;
+        let (second, encoding) = (offset, self.dice.below(4));
+        let words = Words { operation, token, second, length, permissions, ..Words::default() };
+        self.ask(Words { encoding, ..words })
+    }
+
+    /// Execute-only, clone, drop or revoke.
+    pub fn simple(&mut self, operation: Operation, token: u64) -> Reply {
+        let encoding = self.dice.below(4);
+        self.ask(Words { operation: operation as u64, token, encoding, ..Words::default() })
+    }
+
+    /// Lock or unlock.
+    pub fn hold(&mut self, operation: Operation, token: u64, task: u64) -> Reply {
+        self.ask(Words { operation: operation as u64, token, task, ..Words::default() })
+    }
+}
+
+impl fmt::Display for Found {
+    /// The difference as comments, then the session in the replay format with what the proved code
+    /// answers.
+    fn fmt(&self, f: &mut fmt::Formatter<'_>) -> fmt::Result {
+        let requests = self.session.steps.len();
+        let text = format!("After request {requests} {}", self.difference);
+        for line in text.lines() {
+            writeln!(f, "# {line}")?;
+        }
+        writeln!(f)?;
+        let mut world = self.session.world.clone();
+        let steps = self.session.steps.iter();
+        let replies = steps.map(|step| world.serve(&step.request, &mut step.buffer.clone()));
+        let replies: Vec<Reply> = replies.collect();
+        f.write_str(&session::text::print_with(&self.session, &replies))
+    }
+}

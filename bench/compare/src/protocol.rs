@@ -1,0 +1,235 @@
+//! The line protocol: each line on a simulator's standard input is answered by one line on its
+//! standard output.
+//!
+//! ```text
+//! northbridge 1                             northbridge 1
+//! world TABLE MEMORY KEY0 KEY1 LAST NEXT    ok
+//! table AT BYTES                            ok
+//! memory AT BYTES                           ok
+//! serve WORD0 .. WORD7 BUFFER               answer REFUSAL PLACE FIRST SECOND DROPPED
+//!                                                  KEY0 KEY1 LAST NEXT BUFFER
+//! show-table AT LENGTH                      bytes BYTES
+//! show-memory AT LENGTH                     bytes BYTES
+//! anything else                             error WHAT WAS EXPECTED
+//! ```
+//!
+//! Numbers are hexadecimal without a prefix, bytes two digits each, and `-` stands for no bytes.
+//! `world` gives a table and a memory of so many zero bytes, and a state; `table` and `memory` put
+//! bytes into them; `serve` gives a request's eight words and its buffer. No line that the bench
+//! sends has more than 8,192 bytes in it, and it asks for no more in one line. A simulator flushes
+//! its output after each answer and ends at the end of its input.
+
+/// The first line, and its answer.
+pub const GREETING: &str = "northbridge 1";
+
+/// How many bytes one line holds at most.
+pub const PIECE: usize = 8_192;
+
+/// A line, read.
+#[derive(Clone, Debug, PartialEq, Eq)]
+pub enum Line {
+    Greeting,
+    World { table: usize, memory: usize, state: [u64; 4] },
+    Put { part: Name, at: usize, bytes: Vec<u8> },
+    Serve { words: [u64; 8], buffer: Vec<u8> },
+    Show { part: Name, at: usize, length: usize },
+}
+
+#[derive(Clone, Copy, Debug, PartialEq, Eq)]
+pub enum Name {
+    Table,
+    Memory,
+}
+
+/// Reads a line; the error says what was expected.
+pub fn parse(line: &str) -> Result<Line, String> {
+    let words: Vec<&str> = line.split_whitespace().collect();
+    match words[..] {
+        ["northbridge", ref rest @ ..] => greeting(rest),
+        ["world", ref rest @ ..] => world(rest),
+        ["table", at, text] => put(Name::Table, at, text),
+        ["memory", at, text] => put(Name::Memory, at, text),
+        ["serve", ref rest @ .., buffer] => {
+            Ok(Line::Serve { words: numbers(rest)?, buffer: bytes(buffer)? })
+        }
+        ["show-table", at, length] => show(Name::Table, at, length),
+        ["show-memory", at, length] => show(Name::Memory, at, length),
+        _ => Err(expected(words.first().copied())),
+    }
+}
+
+fn expected(word: Option<&str>) -> String {
+    let form = match word {
+        Some("table" | "memory") => "a place and bytes",
+        Some("serve") => "eight words and a buffer",
+        Some("show-table" | "show-memory") => "a place and a length",
+        _ => "northbridge, world, table, memory, serve, show-table or show-memory",
+    };
+    format!("expected {form}")
+}
+
+fn greeting(words: &[&str]) -> Result<Line, String> {
+    match words {
+        ["1"] => Ok(Line::Greeting),
+        _ => Err("expected version 1".to_string()),
+    }
+}
+
+fn world(words: &[&str]) -> Result<Line, String> {
+    let [table, memory, key0, key1, last, next] = numbers(words)?;
+    let (table, memory) = (length(table)?, length(memory)?);
+    Ok(Line::World { table, memory, state: [key0, key1, last, next] })
+}
+
+/// A table or a memory that is a little too long is served; one that fills the machine is not.
+fn length(number: u64) -> Result<usize, String> {
+    let length = usize::try_from(number).ok().filter(|length| *length <= 1 << 28);
+    length.ok_or_else(|| format!("expected a length of at most 10000000, not {number:x}"))
+}
+
+fn put(part: Name, at: &str, text: &str) -> Result<Line, String> {
+    Ok(Line::Put { part, at: length(number(at)?)?, bytes: bytes(text)? })
+}
+
+fn show(part: Name, at: &str, wanted: &str) -> Result<Line, String> {
+    Ok(Line::Show { part, at: length(number(at)?)?, length: length(number(wanted)?)? })
+}
+
+/// The numbers and the buffer of an answer.
+pub fn parse_answer(line: &str) -> Result<([u64; 9], Vec<u8>), String> {
+    let words: Vec<&str> = line.split_whitespace().collect();
+    match words[..] {
+        ["answer", ref rest @ .., buffer] => Ok((numbers(rest)?, bytes(buffer)?)),
+        _ => Err("expected answer, nine words and a buffer".to_string()),
+    }
+}
+
+/// The bytes of an answer, which must be as many as the place has.
+pub fn parse_bytes(line: &str, place: &mut [u8]) -> Result<(), String> {
+    let wrong = || format!("expected bytes and {} bytes", place.len());
+    let text = line.strip_prefix("bytes ").ok_or_else(wrong)?.trim_end();
+    if place.is_empty() && text == "-" {
+        return Ok(());
+    }
+    if text.len() != 2 * place.len() {
+        return Err(wrong());
+    }
+    read_digits(text, place)
+}
+
+fn number(word: &str) -> Result<u64, String> {
+    let digits = word.bytes().all(|letter| letter.is_ascii_hexdigit());
+    let number = u64::from_str_radix(word, 16).ok().filter(|_| digits);
+    number.ok_or_else(|| format!("expected a hexadecimal number of 64 bits, not '{word}'"))
+}
+
+/// Exactly as many numbers as are wanted.
+fn numbers<const N: usize>(words: &[&str]) -> Result<[u64; N], String> {
+    let numbers: Result<Vec<u64>, String> = words.iter().map(|word| number(word)).collect();
+    let numbers = numbers?;
+    let count = numbers.len();
+    numbers.try_into().map_err(|_| format!("expected {N} words before the last, not {count}"))
+}
+
+fn bytes(text: &str) -> Result<Vec<u8>, String> {
+    if text == "-" {
+        return Ok(Vec::new());
+    }
+    if !text.len().is_multiple_of(2) {
+        return Err("expected an even number of hexadecimal digits, or -".to_string());
+    }
+    let mut bytes = vec![0; text.len() / 2];
+    read_digits(text, &mut bytes)?;
+    Ok(bytes)
+}
+
+fn read_digits(text: &str, place: &mut [u8]) -> Result<(), String> {
+    for (byte, pair) in place.iter_mut().zip(text.as_bytes().chunks_exact(2)) {
+        let digits = (VALUES[usize::from(pair[0])], VALUES[usize::from(pair[1])]);
+        let (high, low) = digits;
+        if high > 15 || low > 15 {
+            return Err(format!(
+                "expected hexadecimal digits, not '{}'",
+                String::from_utf8_lossy(pair)
+            ));
+        }
+        *byte = high << 4 | low;
+    }
+    Ok(())
+}
+
+/// The value of each letter as a hexadecimal digit; 16 for none.
+const VALUES: [u8; 256] = values();
+
+const fn values() -> [u8; 256] {
+    let mut values = [16; 256];
+    let mut digit = 0;
+    while digit < 16 {
+        values[b"0123456789abcdef"[digit] as usize] = digit as u8;
+        values[b"0123456789ABCDEF"[digit] as usize] = digit as u8;
+        digit += 1;
+    }
+    values
+}
+
+/// Adds bytes to a line, after a space.
+pub fn write_bytes(line: &mut Vec<u8>, bytes: &[u8]) {
+    const DIGITS: &[u8; 16] = b"0123456789abcdef";
+    line.push(b' ');
+    if bytes.is_empty() {
+        line.push(b'-');
+    }
+    for byte in bytes {
+        let digits = [byte >> 4, byte & 15];
+        line.extend(digits.map(|digit| DIGITS[usize::from(digit)]));
+    }
+}
+
+/// Adds numbers to a line, each after a space.
+pub fn write_numbers(line: &mut Vec<u8>, numbers: &[u64]) {
+    for number in numbers {
+        line.extend_from_slice(format!(" {number:x}").as_bytes());
+    }
+}
+
+#[cfg(test)]
+mod tests {
+    use super::*;
+
+    #[test]
+    fn lines_are_read() {
+        let state = [1, 2, 3, 4];
+        assert_eq!(parse("northbridge 1"), Ok(Line::Greeting));
+        let world = Line::World { table: 64, memory: 16, state };
+        assert_eq!(parse("world 40 10 1 2 3 4"), Ok(world));
+        let put = Line::Put { part: Name::Memory, at: 10, bytes: vec![0xAB, 0] };
+        assert_eq!(parse("memory a Ab00"), Ok(put));
+        let words = [1, 0, 0, 0, 0, 0, 0, u64::MAX];
+        let serve = Line::Serve { words, buffer: vec![] };
+        assert_eq!(parse("serve 1 0 0 0 0 0 0 ffffffffffffffff -"), Ok(serve));
+        let show = Line::Show { part: Name::Table, at: 0, length: 32 };
+        assert_eq!(parse("show-table 0 20"), Ok(show));
+    }
+
+    #[test]
+    fn bad_lines_say_what_was_expected() {
+        let wrong = |line: &str| parse(line).unwrap_err();
+        assert!(wrong("").contains("northbridge"));
+        assert!(wrong("northbridge 2").contains("version 1"));
+        assert!(wrong("serve 1 2 -").contains("8 words"));
+        assert!(wrong("serve +1 0 0 0 0 0 0 0 -").contains("'+1'"));
+        assert!(wrong("table 0 abc").contains("even"));
+        assert!(wrong("table 0 zz").contains("'zz'"));
+        assert!(wrong("world ffffffffffffffff 0 0 0 0 0").contains("length"));
+    }
+
+    #[test]
+    fn bytes_are_written_as_they_are_read() {
+        let mut line = b"bytes".to_vec();
+        write_bytes(&mut line, &[0, 0x5A, 0xFF]);
+        let mut place = [1; 3];
+        parse_bytes(std::str::from_utf8(&line).unwrap(), &mut place).unwrap();
+        assert_eq!(place, [0, 0x5A, 0xFF]);
+        assert!(parse_bytes("bytes 00", &mut place).unwrap_err().contains("3 bytes"));
+    }
+}

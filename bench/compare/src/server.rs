@@ -1,0 +1,73 @@
+//! The proved code behind the line protocol.
+
+use std::io::{self, BufRead, Write};
+
+use bridge::{State, Words};
+use session::World;
+
+use crate::protocol::{self, Line, Name, GREETING};
+
+/// Answers each line of the input with one line on the output, until the input ends. A line that
+/// cannot be read is answered by an error line that says what was expected.
+pub fn serve(mut input: impl BufRead, mut output: impl Write) -> io::Result<()> {
+    let mut world = World::zeros(0, 0);
+    let (mut line, mut answer) = (Vec::new(), Vec::new());
+    loop {
+        line.clear();
+        if input.read_until(b'\n', &mut line)? == 0 {
+            return Ok(());
+        }
+        answer.clear();
+        let done = respond(&mut world, &String::from_utf8_lossy(&line), &mut answer);
+        if let Err(expected) = done {
+            answer = format!("error {expected}").into_bytes();
+        }
+        answer.push(b'\n');
+        output.write_all(&answer)?;
+        output.flush()?;
+    }
+}
+
+fn respond(world: &mut World, line: &str, answer: &mut Vec<u8>) -> Result<(), String> {
+    match protocol::parse(line)? {
+        Line::Greeting => answer.extend_from_slice(GREETING.as_bytes()),
+        Line::World { table, memory, state: [key0, key1, last_number, next_nonce] } => {
+            *world = World::zeros(table, memory);
+            world.state = State { key: [key0, key1], last_number, next_nonce };
+            answer.extend_from_slice(b"ok");
+        }
+        Line::Put { part, at, bytes } => {
+            let place = place(world, part).get_mut(at..at + bytes.len());
+            place.ok_or_else(outside)?.copy_from_slice(&bytes);
+            answer.extend_from_slice(b"ok");
+        }
+        Line::Serve { words, mut buffer } => ask(world, words, &mut buffer, answer),
+        Line::Show { part, at, length } => {
+            let shown = place(world, part).get(at..at + length).ok_or_else(outside)?;
+            answer.extend_from_slice(b"bytes");
+            protocol::write_bytes(answer, shown);
+        }
+    }
+    Ok(())
+}
+
+fn place(world: &mut World, part: Name) -> &mut [u8] {
+    match part {
+        Name::Table => &mut world.table,
+        Name::Memory => &mut world.memory,
+    }
+}
+
+fn outside() -> String {
+    "expected a place inside the world's table or memory".to_string()
+}
+
+fn ask(world: &mut World, words: [u64; 8], buffer: &mut [u8], answer: &mut Vec<u8>) {
+    let reply = world.serve(&Words::from_order(words), buffer);
+    let bridge::Reply { refusal, place, first, second, dropped } = reply;
+    let State { key: [key0, key1], last_number, next_nonce } = world.state;
+    answer.extend_from_slice(b"answer");
+    let words = [refusal, place, first, second, dropped, key0, key1, last_number, next_nonce];
+    protocol::write_numbers(answer, &words);
+    protocol::write_bytes(answer, buffer);
+}

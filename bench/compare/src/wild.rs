@@ -1,0 +1,264 @@
+//! Random requests over what stands now: mostly near to what can be granted, with each word now and
+//! then a little or far off.
+
+use bridge::{Operation, Words};
+
+use crate::entry::{self, Entry};
+use crate::player::Player;
+
+/// How often each operation is asked.
+const WEIGHTS: [(Operation, u64); 13] = [
+    (Operation::Read, 16),
+    (Operation::Write, 16),
+    (Operation::Fetch, 8),
+    (Operation::Create, 12),
+    (Operation::Merge, 12),
+    (Operation::Derive, 14),
+    (Operation::ExecuteOnly, 6),
+    (Operation::Clone, 8),
+    (Operation::Drop, 16),
+    (Operation::Lock, 7),
+    (Operation::Unlock, 8),
+    (Operation::Revoke, 5),
+    (Operation::Reset, 1),
+];
+
+const WEIGHT: u64 = 129;
+
+/// Tasks, those that differ in the bits from 55 on among them.
+pub const TASKS: [u64; 12] = [
+    0,
+    1,
+    7,
+    7,
+    8,
+    (1 << 55) - 1,
+    (1 << 54) + 7,
+    1 << 55,
+    (1 << 55) + 7,
+    (1 << 63) + 7,
+    (1 << 56) - 1,
+    u64::MAX,
+];
+
+/// Asks random requests.
+pub fn play(player: &mut Player, requests: usize) {
+    for _ in 0..requests {
+        if player.over() {
+            return;
+        }
+        let operation = operation(player);
+        ask(player, operation);
+    }
+}
+
+fn operation(player: &mut Player) -> Operation {
+    let mut at = player.dice.below(WEIGHT);
+    for (operation, weight) in WEIGHTS {
+        if at < weight {
+            return operation;
+        }
+        at -= weight;
+    }
+    Operation::Read
+}
+
+/// Asks one random request of an operation, through a number that is in use if there is one.
+pub fn ask(player: &mut Player, operation: Operation) {
+    let number = used_number(player);
+    ask_through(player, operation, number);
+}
+
+/// Asks one random request of an operation, mostly through the entry of a number.
+pub fn ask_through(player: &mut Player, operation: Operation, number: usize) {
+    let entry = player.entry(number);
+    match operation {
+        Operation::Read | Operation::Write | Operation::Fetch => {
+            access(player, operation, number, &entry);
+        }
+        _ => {
+            let words = words(player, operation, number, &entry);
+            let buffer = if player.dice.once_in(16) { player.dice.bytes(3) } else { Vec::new() };
+            player.ask_with(words, buffer);
+        }
+    }
+}
+
+/// A number in use, sought from a random one on; any number if none is near.
+pub fn used_number(player: &mut Player) -> usize {
+    let entries = player.entries().max(1);
+    let from = player.dice.index(entries);
+    let near = (from..from + 40).map(|number| number % entries);
+    near.into_iter().find(|number| !player.entry(*number).is_free()).unwrap_or(from)
+}
+
+/// A token for a number: mostly the right one, in any encoding.
+pub fn token(player: &mut Player, number: usize, entry: &Entry) -> u64 {
+    let encoding = player.dice.below(4);
+    let right = entry.token(number, encoding);
+    match player.dice.below(64) {
+        0 => right ^ 1 << player.dice.below(64),
+        1 => entry::pack(encoding, player.dice.word(), number as u64, 0),
+        2 => entry::pack(encoding, entry.get(entry::TAG), number as u64, player.dice.below(9)),
+        3 => beyond(player, entry),
+        4 => player.dice.word(),
+        5 => 0,
+        6 | 7 if !player.given.is_empty() => {
+            let at = player.dice.index(player.given.len());
+            player.given[at]
+        }
+        _ => right,
+    }
+}
+
+/// A token whose number is at or beyond the table's end.
+fn beyond(player: &mut Player, entry: &Entry) -> u64 {
+    let end = player.entries() as u64;
+    let number = player.dice.one_of(&[end, end + 1, 1_023, 1_024, 16_383, 1 << 14, 1 << 22]);
+    let tag = player.dice.one_of(&[0, entry.get(entry::TAG)]);
+    entry::pack(player.dice.below(4), tag, number, 0)
+}
+
+pub fn task(player: &mut Player) -> u64 {
+    if player.dice.once_in(12) {
+        return player.dice.one_of(&TASKS);
+    }
+    player.dice.one_of(&[0, 0, 1, 7])
+}
+
+/// Permissions: within the entry's, or any, or above 7.
+fn permissions(player: &mut Player, entry: &Entry) -> u64 {
+    match player.dice.below(24) {
+        0 => player.dice.one_of(&[8, 9, 15, 16, 255, 256, 1 << 32, u64::MAX]),
+        1 | 2 => player.dice.below(8),
+        3..=10 => entry.get(entry::PERMISSIONS),
+        _ => entry.get(entry::PERMISSIONS) & player.dice.below(8),
+    }
+}
+
+fn encoding(player: &mut Player) -> u64 {
+    match player.dice.below(48) {
+        0 => player.dice.one_of(&[4, 5, 7, 8, 256, 1 << 32, 1 << 62, u64::MAX]),
+        _ => player.dice.below(4),
+    }
+}
+
+/// A length near a segment's: inside, at an end, or beyond.
+fn length(player: &mut Player, whole: u64) -> u64 {
+    match player.dice.below(24) {
+        0 => 0,
+        1 => whole + 1,
+        2 => player.dice.one_of(&[1 << 32, (1 << 32) + whole, 1 << 63, u64::MAX]),
+        3..=5 => whole,
+        6 => whole.saturating_sub(1),
+        7..=9 => 1,
+        10..=14 => whole / 2,
+        _ => player.dice.between(1, whole.max(1)),
+    }
+}
+
+fn access(player: &mut Player, operation: Operation, number: usize, entry: &Entry) {
+    let whole = entry.length();
+    let buffer = buffer_length(player, whole);
+    let named = token(player, number, entry);
+    let token = with_offset(player, named, whole, buffer as u64);
+    let task = task(player);
+    let words = Words { operation: operation as u64, token, task, ..Words::default() };
+    let bytes = player.dice.bytes(buffer);
+    player.ask_with(words, bytes);
+}
+
+fn buffer_length(player: &mut Player, whole: u64) -> usize {
+    let length = match player.dice.below(64) {
+        0 => player.dice.one_of(&[0, 0, 4_095, 4_096, 4_097, 8_192]),
+        1 | 2 => whole + player.dice.below(2),
+        3..=20 => 1,
+        _ => player.dice.between(1, whole.clamp(1, 16)),
+    };
+    length.min(8_192) as usize
+}
+
+/// Moves a token's offset, if its encoding has one, to a place where the access may stand.
+fn with_offset(player: &mut Player, token: u64, whole: u64, buffer: u64) -> u64 {
+    let [encoding, tag, number, offset] = entry::unpack(token);
+    let last = whole.saturating_sub(buffer);
+    let offset = match player.dice.below(16) {
+        0 => last + 1,
+        1 => player.dice.one_of(&[whole, whole.wrapping_sub(1), u64::MAX, (1 << 16) - 1]),
+        2..=4 => last,
+        5..=8 => offset,
+        _ => player.dice.between(0, last),
+    };
+    entry::pack(encoding, tag, number, offset)
+}
+
+fn words(player: &mut Player, operation: Operation, number: usize, entry: &Entry) -> Words {
+    let token = token(player, number, entry);
+    let words = Words { operation: operation as u64, token, ..Words::default() };
+    match operation {
+        Operation::Reset => reset(player, words),
+        Operation::Create => create(player, words, entry),
+        Operation::Merge => merge(player, words, entry),
+        Operation::Derive => derive(player, words, entry),
+        Operation::Lock | Operation::Unlock => Words { task: task(player), ..words },
+        Operation::ExecuteOnly | Operation::Revoke => Words { encoding: encoding(player), ..words },
+        _ => words,
+    }
+}
+
+fn reset(player: &mut Player, words: Words) -> Words {
+    let task = first_nonce(player);
+    Words { token: player.dice.word(), second: player.dice.word(), task, ..words }
+}
+
+/// A first nonce: low, anywhere, near the end, or none.
+pub fn first_nonce(player: &mut Player) -> u64 {
+    match player.dice.below(12) {
+        0 => player.dice.one_of(&[0, 1 << 32, (1 << 32) + 1, 1 << 33, u64::MAX]),
+        1 => (1 << 32) - player.dice.between(1, 12),
+        2 | 3 => player.dice.between(1, (1 << 32) - 1),
+        _ => player.dice.between(1, 300),
+    }
+}
+
+fn create(player: &mut Player, words: Words, entry: &Entry) -> Words {
+    let user = player.dice.word();
+    let task = task(player);
+    let length = length(player, entry.length());
+    let permissions = permissions(player, entry);
+    Words { task, length, user, permissions, encoding: encoding(player), ..words }
+}
+
+/// The second token is mostly that of the neighbour behind.
+fn merge(player: &mut Player, words: Words, entry: &Entry) -> Words {
+    let numbers = 0..player.entries();
+    let behind = numbers.into_iter().find(|number| {
+        let next = player.entry(*number);
+        next.kind() == entry::DIRECT && next.get(entry::BASE) == entry.end()
+    });
+    let number = match behind {
+        Some(number) if !player.dice.once_in(6) => number,
+        _ => used_number(player),
+    };
+    let second = player.entry(number);
+    let second = token(player, number, &second);
+    let task = task(player);
+    Words { second, task, encoding: encoding(player), ..words }
+}
+
+fn derive(player: &mut Player, words: Words, entry: &Entry) -> Words {
+    let whole = entry.length();
+    let length = length(player, whole);
+    let room = whole.saturating_sub(length);
+    let second = match player.dice.below(16) {
+        0 => room,
+        1 => player.dice.one_of(&[whole, 1 << 32, u64::MAX]),
+        2 => 0u64.wrapping_sub(length),
+        3 => 1u64.wrapping_sub(length),
+        4 | 5 => room.saturating_sub(1),
+        6..=8 => 0,
+        _ => player.dice.below(room.max(1)),
+    };
+    let permissions = permissions(player, entry);
+    Words { second, length, permissions, encoding: encoding(player), ..words }
+}

@@ -1,0 +1,46 @@
+//! `nb serve`: the proved code behind the line protocol.
+
+use std::io::{stdin, Write};
+
+use super::{Command, Failure, Verdict};
+use crate::arguments::Arguments;
+
+pub const COMMAND: Command = Command {
+    name: "serve",
+    about: "speaks the line protocol with the proved code",
+    example: "nb compare --requests 20000 --against 'nb serve'",
+    help: HELP,
+    run,
+};
+
+const HELP: &str = "\
+nb serve
+
+Answers each line on the standard input by one line on the standard output, until the input ends:
+
+    northbridge 1                             northbridge 1
+    world TABLE MEMORY KEY0 KEY1 LAST NEXT    ok
+    table AT BYTES                            ok
+    memory AT BYTES                           ok
+    serve WORD0 .. WORD7 BUFFER               answer REFUSAL PLACE FIRST SECOND DROPPED
+                                                     KEY0 KEY1 LAST NEXT BUFFER
+    show-table AT LENGTH                      bytes BYTES
+    show-memory AT LENGTH                     bytes BYTES
+    anything else                             error WHAT WAS EXPECTED
+
+Numbers are hexadecimal without a prefix, bytes two digits each, and - stands for no bytes. 'world'
+gives a table and a memory of so many zero bytes, and a state; 'table' and 'memory' put bytes into
+them; 'serve' gives a request's eight words and its buffer.
+
+For example:
+
+    nb compare --requests 20000 --against 'nb serve'
+";
+
+fn run(arguments: Arguments, out: &mut dyn Write) -> Result<Verdict, Failure> {
+    if let [word, ..] = arguments.rest()?.as_slice() {
+        return Err(Failure::Input(format!("serve: expected nothing, found {word}")));
+    }
+    compare::serve(stdin().lock(), out)?;
+    Ok(Verdict::Agreement)
+}

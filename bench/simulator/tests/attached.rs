@@ -1,0 +1,78 @@
+//! The simulator attached to the bench, as it is and with what it says spoilt on the way.
+
+use compare::{run, Difference, Options, Outcome};
+
+const SIMULATOR: &str = env!("CARGO_BIN_EXE_simulator");
+
+fn against(command: &str, requests: u64) -> Result<Outcome, String> {
+    let against = Some(command.to_string());
+    run(&Options { requests, against, ..Options::default() })
+}
+
+/// The simulator with each of its lines passed through an edit.
+fn spoilt(edit: &str) -> Outcome {
+    let outcome = against(&format!("'{SIMULATOR}' | sed -u '{edit}'"), 3_000).expect("a run");
+    assert_eq!(outcome.status(), 1);
+    outcome
+}
+
+fn trouble(outcome: &Outcome) -> String {
+    match &outcome.found.as_ref().expect("a difference").difference {
+        Difference::Trouble(trouble) => trouble.message().to_string(),
+        other => panic!("{other}"),
+    }
+}
+
+#[test]
+fn agrees() {
+    let outcome = against(&format!("exec '{SIMULATOR}'"), 3_000).expect("a run");
+    assert!(outcome.found.is_none(), "{outcome}");
+}
+
+#[test]
+fn another_refusal_is_found_and_shrunk() {
+    let found = spoilt("s/^answer 9 /answer 8 /").found.expect("a difference");
+    assert!(matches!(found.difference, Difference::Reply(_)), "{found}");
+    assert!(found.session.steps.len() < 4, "{found}");
+}
+
+#[test]
+fn another_byte_of_a_table_is_found() {
+    let found = spoilt("s/^bytes 20\\(.*\\)00$/bytes 20\\101/").found.expect("a difference");
+    assert!(matches!(found.difference, Difference::Byte { .. }), "{found}");
+    assert!(found.session.steps.len() < 3, "{found}");
+}
+
+#[test]
+fn an_answer_that_cannot_be_read_is_a_difference() {
+    let outcome = spoilt("s/^answer 9 .*/nonsense/");
+    assert!(trouble(&outcome).contains("'nonsense': expected answer, nine words"), "{outcome}");
+    assert!(outcome.found.expect("a difference").session.steps.len() < 4);
+}
+
+#[test]
+fn an_answer_with_a_word_too_few_is_a_difference() {
+    let outcome = spoilt("s/^answer 9 0 /answer 9 /");
+    assert!(trouble(&outcome).contains("expected 9 words"), "{outcome}");
+}
+
+#[test]
+fn an_end_in_the_middle_is_a_difference() {
+    // The ninth operation, a drop, ends the simulator's input.
+    let command = format!("sed -u '/^serve 9 /Q' | '{SIMULATOR}'");
+    let outcome = against(&command, 3_000).expect("a run");
+    assert!(trouble(&outcome).contains("ended without an answer"), "{outcome}");
+    assert_eq!(outcome.found.expect("a difference").session.steps.len(), 1);
+}
+
+#[test]
+fn a_command_that_is_not_there() {
+    let error = against("./no-such-simulator 2> /dev/null", 10).unwrap_err();
+    assert!(error.contains("no-such-simulator"), "{error}");
+}
+
+#[test]
+fn a_command_that_does_not_speak_the_protocol() {
+    let error = against("echo hello", 10).unwrap_err();
+    assert!(error.contains("'hello': expected northbridge 1"), "{error}");
+}
