@@ -1,16 +1,14 @@
 -- The bytes of numbers: round trips, and a list by its elements.
 -- Assumes nothing.
-use mathlib.Core.Path.{_≡_, refl, sym, _∙_, ap, ap₂}
+use mathlib.Core.Path.{_≡_, refl, _∙_, ap, ap₂}
 use mathlib.Core.List.{List, [], _∷_, reverse, reverse-reverse}
 use Prim.Native.Nat.{ℕ, zero, suc, _^_, _<_}
 use native.Mathlib.Nat.{mod-eq-of-lt, zero-div, zero-mod}
-use lib.ListN.{length, getD, take, drop, replicate, length-replicate}
-use lib.Seq.{drop-drop}
+use lib.ListN.{length, getD, replicate, length-replicate}
 use borrow.Author.Needs.{needs}
-use borrow.Rule.Slice.PartMut.{putMid}
 use Rattle.bits.specs.Bytes.{bytes, lowBytes, lowNumber, number}
-use Rattle.bits.specs.Fields.{bits, pack, Fit}
-use Rattle.bits.proofs.FieldLaws.{unpack-pack, pack-unpack, length-unpack, unpack-cut, pack-groups, cut}
+use Rattle.bits.specs.Fields.{bits, Fit}
+use Rattle.bits.proofs.FieldLaws.{unpack-pack, pack-unpack, length-unpack}
 
 -- the values of f below n
 abbrev pub tabulate : ℕ → (ℕ → ℕ) → List ℕ

@@ -1,13 +1,13 @@
 -- The 40 bytes of a tag are five words for SipHash.
 -- Assumes nothing.
-use mathlib.Core.Path.{_≡_, refl, sym, _∙_, ap}
+use mathlib.Core.Path.{_≡_, refl, ap}
 use mathlib.Core.List.{List, _++_}
 use Prim.Native.Nat.{ℕ, _/_, _%_, _^_, _<_}
 use lib.ListN.{length}
 use Rattle.bits.specs.Bytes.{bytes, lowBytes, lowNumber, number}
 use Rattle.layout.specs.Entry.{entryNumber, wordList, wordsNumber, wordWidths}
-use Rattle.bits.specs.Fields.{Fit, pack}
-use Rattle.bits.specs.SipHash.{absorb, compress, finish, padded, siphash, start, word}
+use Rattle.bits.specs.Fields.{Fit}
+use Rattle.bits.specs.SipHash.{absorb, compress, finish, padded, start, word}
 use Rattle.layout.specs.Tag.{retag, tagOf}
 use Rattle.layout.specs.declared.entry.Entry.{Entry}
 use Rattle.layout.specs.declared.entry.Words.{Words}

@@ -8,7 +8,7 @@ use lib.ListN.{length}
 use Rattle.machine.specs.Operations.{Decision, Effect, grant, nothing, numberOf}
 use Rattle.machine.specs.Parts as parts
 use Rattle.machine.specs.Parts.{at}
-use Rattle.machine.specs.Requests.{access, clone, create, derive, executeOnly, fetching, lock, merge, reading, release, Request, reset, revoke, unlock, Way, writing}
+use Rattle.machine.specs.Requests.{access, clone, create, derive, executeOnly, lock, merge, release, Request, reset, revoke, unlock, Way, writing}
 use Rattle.machine.specs.Steps.{answer, bufferAfter, decide, memoryAfter, pass, settle, step, stop, Verdict, verdict}
 use Rattle.machine.specs.Stops.{checks}
 use Rattle.machine.proofs.Choices.{by-cond}

@@ -1,20 +1,17 @@
 -- A request is decided by its verdict.
 -- Assumes nothing.
-use mathlib.Core.Path.{_≡_, refl, sym, _∙_, ap}
-use mathlib.Core.List.{List, []}
+use mathlib.Core.Path.{_≡_, sym, _∙_, ap}
+use mathlib.Core.List.{List}
 use Prim.Native.Nat.{ℕ}
 use Rattle.checks.specs.Answers.{stopAs}
 use Rattle.checks.specs.declared.answer.Refusal.{Refusal}
-use Rattle.machine.specs.Operations.{grant, nothing}
+use Rattle.machine.specs.Operations.{nothing}
 use Rattle.machine.specs.Parts as parts
 use Rattle.machine.specs.Requests.{Request}
 use Rattle.machine.specs.Steps.{decide, pass, settle, Verdict, stop}
 use Rattle.rulings.specs.Rulings.{checkedAs, decided, effectOn, granting, handed, refusing, ruled, Ruling, issuerAs, verdictOn, grantedEffect}
 use Rattle.checks.proofs.VerdictLaws.{Passed, passed}
-use Rattle.machine.specs.Parts as parts
 use Rattle.machine.specs.Stops.{checks}
-use Rattle.machine.specs.Parts as parts
-use Rattle.machine.specs.Parts as parts
 use Rattle.rulings.specs.declared.answer.Checked.{Checked}
 use Rattle.rulings.specs.declared.answer.Checked.the-variants.{Pass, Stop}
 use Rattle.rulings.specs.declared.answer.Outcome.{Outcome}

@@ -1,40 +1,28 @@
 -- The line of an entry: one law for each way out of a walk.
 -- Assumes nothing.
 use mathlib.Core.Path.{_≡_, refl, sym, _∙_, ap}
-use mathlib.Core.Bool.{Bool, true, false, not, _&&_, cond}
+use mathlib.Core.Bool.{Bool, true, false, cond}
 use mathlib.Core.List.{List}
-use Prim.Native.Nat.{ℕ, zero, suc, _+_, _*_, _/_, _≤_, _<_}
+use Prim.Native.Nat.{ℕ, _+_, _*_, _/_, _≤_, _<_}
 use native.Mathlib.Omega.{arith}
-use native.Mathlib.Decide.{decLt}
-use lib.Dec.{eqb, ltb}
+use lib.Dec.{eqb}
 use lib.ListN.{length}
-use borrow.Author.Tests.{eq-eqb, eqb-true, ltb-true, ne-eqb, not-true}
-use Rattle.layout.specs.Entry.{free}
+use borrow.Author.Tests.{eq-eqb, ne-eqb}
 use Rattle.layout.specs.Form.{illFormed}
 use Rattle.layout.specs.declared.entry.Entry.{Entry}
-use Rattle.layout.proofs.TestLaws.{both}
-use Rattle.machine.specs.Line.{dead, ill, Line, lineOf, linked, links, owner, parentNumber, parentTag, walk}
+use Rattle.machine.specs.Line.{dead, ill, Line, lineOf, linked, links, owner, parentNumber, walk}
 use Rattle.machine.specs.Parts.{at, size}
+use Rattle.machine.proofs.Basics.{link}
+use Rattle.machine.proofs.Fuel.{line-enough}
 use Rattle.machine.proofs.TableLaws.{at-out, in-table}
 
 -- ---- a link
 
--- what a link that holds says of the parent
-record Held (p e : Entry) : Type 0 where
-  full : p .kind ≡ 0 → ⊥
-  older : p .nonce < e .nonce
-
-links-held : (p e : Entry) → links p e ≡ true → Held p e
-links-held p e h =
-    let older = both _ _ h in
-    let full = both (not (eqb (p .kind) 0)) _ (older .0) in
-    record { full = λ z. (let q : _≡_ {A = Bool} true false = sym (eq-eqb (p .kind) 0 z) ∙ not-true _ (full .0) in let n : _≡_ {A = ℕ} 0 1 = cc in omega arith); older = ltb-true _ _ (older .1) }
-
 pub linked-in : (t : List ℕ) (e : Entry) → linked t e ≡ true → parentNumber e < size t
-linked-in t e h = in-table t (parentNumber e) (links-held (at t (parentNumber e)) e h .full)
+linked-in t e h = in-table t (parentNumber e) (link e (at t (parentNumber e)) h .full)
 
 pub linked-older : (t : List ℕ) (e : Entry) → linked t e ≡ true → at t (parentNumber e) .nonce < e .nonce
-linked-older t e h = links-held (at t (parentNumber e)) e h .older
+linked-older t e h = link e (at t (parentNumber e)) h .older
 
 pub unlinked : (t : List ℕ) (e : Entry) → size t ≤ parentNumber e → linked t e ≡ false
 unlinked t e h = ap (λ (p : Entry). links p e) (at-out t (parentNumber e) h)
@@ -46,25 +34,13 @@ under : {A : Type 0} (b : Bool) (x y z : A) → (b ≡ true → x ≡ y) → con
 under true x y z h = h refl
 under false x y z h = refl
 
--- more steps than the first nonce are enough
-walk-fuel : (f g m : ℕ) (t : List ℕ) (n : ℕ) → at t n .nonce < f → at t n .nonce < g → walk f m t n ≡ walk g m t n
-unfolding walk
-walk-fuel zero g m t n h i = absurd (omega arith)
-walk-fuel (suc f) zero m t n h i = absurd (omega arith)
-walk-fuel (suc f) (suc g) m t n h i =
-    let e : Entry = at t n in
-    let up = walk f m t (parentNumber e) in
-    let up′ = walk g m t (parentNumber e) in
-    ap (λ (l : Line). cond (illFormed m e) (ill n) (cond (eqb (e .kind) 1) (owner n) l))
-    (under (linked t e) up up′ (dead n) (λ l. let o = linked-older t e l in walk-fuel f g m t (parentNumber e) (omega arith) (omega arith)))
-
 line-step : (m : ℕ) (t : List ℕ) (n : ℕ) → lineOf m t n ≡ cond (illFormed m (at t n)) (ill n) (cond (eqb (at t n .kind) 1) (owner n) (cond (linked t (at t n)) (lineOf m t (parentNumber (at t n))) (dead n)))
 unfolding walk
 line-step m t n =
     let e : Entry = at t n in
     let p : ℕ = parentNumber e in
     ap (λ (l : Line). cond (illFormed m e) (ill n) (cond (eqb (e .kind) 1) (owner n) l))
-    (under (linked t e) (walk (e .nonce) m t p) (lineOf m t p) (dead n) (λ l. let o = linked-older t e l in walk-fuel (e .nonce) (suc (at t p .nonce)) m t p o (omega arith)))
+    (under (linked t e) (walk (e .nonce) m t p) (lineOf m t p) (dead n) (λ l. line-enough (e .nonce) m t p (linked-older t e l)))
 
 -- the ways out of a walk that has come from entry n to entry k
 module _ (m : ℕ) (t : List ℕ) (n k : ℕ) (e : Entry) (b : Bool) (inv : lineOf m t n ≡ lineOf m t k) (is : e ≡ at t k) (form : b ≡ illFormed m e) where
