@@ -149,6 +149,45 @@ unpack-other (suc zero) n a b = absurd (a refl)
 unpack-other (suc (suc zero)) n a b = absurd (b refl)
 unpack-other (suc (suc (suc k))) n a b = refl
 
+-- what all types have, read of the words: the type, and what entries end with
+abbrev pub shared : Entry → Entry
+shared e = record { kind = e .kind; base = 0; length = 0; count = 0; holder = 0; user = 0; parent = 0; zeros = 0; permissions = e .permissions; locked = e .locked; lockable = e .lockable; cow = e .cow; tag = e .tag; nonce = e .nonce }
+
+shared-as : (k n : ℕ) → shared (unpackAs k n) ≡ endFrom k (unpack endWidths n)
+unfolding directOf indirectOf
+shared-as zero n = refl
+shared-as (suc zero) n = refl
+shared-as (suc (suc zero)) n = refl
+shared-as (suc (suc (suc k))) n = refl
+
+pub shared-read : (w : Words) → Fit wordWidths (wordList w) → endFrom (w .a / 2 ^ 61) (unpack endWidths (w .d)) ≡ shared (entryOf (wordsNumber w))
+shared-read w h =
+    let k : ℕ = w .a / 2 ^ 61 in
+    sym (ap shared (entry-read w h refl) ∙ shared-as k (wordsNumber w) ∙ ap (endFrom k) (end-read w h))
+
+-- all fields, read of the words, by the type
+pub direct-at : (w : Words) → Fit wordWidths (wordList w) → w .a / 2 ^ 61 ≡ 1 → directRead w (endFrom 1 (unpack endWidths (w .d))) ≡ entryOf (wordsNumber w)
+direct-at w h k = direct-read w h refl ∙ sym (entry-read w h k)
+
+pub indirect-at : (w : Words) → Fit wordWidths (wordList w) → w .a / 2 ^ 61 ≡ 2 → indirectRead w (endFrom 2 (unpack endWidths (w .d))) ≡ entryOf (wordsNumber w)
+indirect-at w h k = indirect-read w h refl ∙ sym (entry-read w h k)
+
+pub other-at : (w : Words) → Fit wordWidths (wordList w) → (w .a / 2 ^ 61 ≡ 1 → ⊥) → (w .a / 2 ^ 61 ≡ 2 → ⊥) → endFrom (w .a / 2 ^ 61) (unpack endWidths (w .d)) ≡ entryOf (wordsNumber w)
+other-at w h a b =
+    let k : ℕ = w .a / 2 ^ 61 in
+    ap (endFrom k) (sym (end-read w h)) ∙ sym (entry-read w h refl ∙ unpack-other k (wordsNumber w) a b)
+
+-- only a direct entry has a lock holder
+holder-as : (k n : ℕ) → (k ≡ 1 → ⊥) → 0 ≡ unpackAs k n .holder
+unfolding indirectOf
+holder-as zero n a = refl
+holder-as (suc zero) n a = absurd (a refl)
+holder-as (suc (suc zero)) n a = refl
+holder-as (suc (suc (suc k))) n a = refl
+
+pub no-holder : (w : Words) → Fit wordWidths (wordList w) → (w .a / 2 ^ 61 ≡ 1 → ⊥) → 0 ≡ entryOf (wordsNumber w) .holder
+no-holder w h a = holder-as (w .a / 2 ^ 61) (wordsNumber w) a ∙ ap (λ (e : Entry). e .holder) (sym (entry-read w h refl))
+
 pub pack-other : (k : ℕ) (e : Entry) → (k ≡ 1 → ⊥) → (k ≡ 2 → ⊥) → packAs k e ≡ 0
 pack-other zero e a b = refl
 pack-other (suc zero) e a b = absurd (a refl)

@@ -49,7 +49,7 @@ pub enum Held {
 }
 
 // The words that 32 bytes hold.
-fn read_words(part: &[u8]) -> Words
+pub fn read_words(part: &[u8]) -> Words
     requires { ⌜ length (now part) ≡ 32 ⌝ }
     ensures { λ r. ⌜ wordsNumber r ≡ number 32 (now (part .entry)) ⌝ }
 {
@@ -234,6 +234,83 @@ fn entry_of(w: Words) -> Entry
         1 => direct_of(w),
         2 => indirect_of(w),
         _ => end_of(kind as u8, w.d),
+    }
+}
+
+// Single fields of the entry that four words hold. What all types have stands in the same place
+// in each.
+pub fn kind_of(w: Words) -> u8
+    ensures { λ r. ⌜ r ≡ entryOf (wordsNumber w) .kind ⌝ }
+{
+    (w.a >> 61) as u8
+}
+
+pub fn permissions_of(w: Words) -> u8
+    ensures { λ r. ⌜ r ≡ entryOf (wordsNumber w) .permissions ⌝ }
+{
+    ((w.d >> 51) % 8) as u8
+}
+
+pub fn locked_of(w: Words) -> bool
+    ensures { λ r. ⌜ r ≡ entryOf (wordsNumber w) .locked ⌝ }
+{
+    (w.d >> 50) % 2 == 1
+}
+
+pub fn tag_of(w: Words) -> u16
+    ensures { λ r. ⌜ r ≡ entryOf (wordsNumber w) .tag ⌝ }
+{
+    ((w.d >> 32) % (1 << 16)) as u16
+}
+
+pub fn nonce_of(w: Words) -> u32
+    ensures { λ r. ⌜ r ≡ entryOf (wordsNumber w) .nonce ⌝ }
+{
+    (w.d % (1 << 32)) as u32
+}
+
+// The others go by the type.
+pub fn base_of(w: Words) -> u32
+    ensures { λ r. ⌜ r ≡ entryOf (wordsNumber w) .base ⌝ }
+{
+    let kind = w.a >> 61;
+    let base = ((w.a >> 29) % (1 << 32)) as u32;
+    match kind {
+        1 => base,
+        2 => base,
+        _ => 0,
+    }
+}
+
+pub fn length_of(w: Words) -> u32
+    ensures { λ r. ⌜ r ≡ entryOf (wordsNumber w) .length ⌝ }
+{
+    let kind = w.a >> 61;
+    match kind {
+        1 => (w.a % (1 << 29) * 8 + (w.b >> 61)) as u32,
+        2 => (w.b % (1 << 29) * 8 + (w.c >> 61)) as u32,
+        _ => 0,
+    }
+}
+
+pub fn count_of(w: Words) -> u16
+    ensures { λ r. ⌜ r ≡ entryOf (wordsNumber w) .count ⌝ }
+{
+    let kind = w.a >> 61;
+    match kind {
+        1 => ((w.b >> 45) % (1 << 16)) as u16,
+        2 => ((w.c >> 45) % (1 << 16)) as u16,
+        _ => 0,
+    }
+}
+
+pub fn holder_of(w: Words) -> u64
+    ensures { λ r. ⌜ r ≡ entryOf (wordsNumber w) .holder ⌝ }
+{
+    let kind = w.a >> 61;
+    match kind {
+        1 => w.b % (1 << 45) * 1024 + (w.c >> 54),
+        _ => 0,
     }
 }
 
