@@ -1,11 +1,13 @@
 // Entries by number: entry n is the 32 bytes from 32 n on, and nothing else of the table is lent.
 use layout::entry::Entry;
+use layout::entry::Words;
 use layout::entry::load;
+use layout::entry::read_words;
 use layout::entry::store;
 ghost use mathlib.Core.Path.{_≡_};
 ghost use Prim.Native.Nat.{_+_, _*_, _≤_};
 ghost use lib.ListN.{length};
-ghost use Rattle.layout.specs.Entry.{Fits};
+ghost use Rattle.layout.specs.Entry.{entryOf, Fits, wordsNumber};
 ghost use Rattle.machine.specs.Parts.{at, put};
 
 // The entry of number n.
@@ -16,6 +18,16 @@ pub fn entry_at(table: &[u8], n: usize) -> Entry
     let start = 32 * n;
     let end = start + 32;
     load(&table[start..end])
+}
+
+// Its four words, for whoever needs only some of its fields.
+pub fn words_at(table: &[u8], n: usize) -> Words
+    requires { ⌜ 32 * n + 32 ≤ length (now table) ⌝ }
+    ensures { λ r. ⌜ entryOf (wordsNumber r) ≡ at (now (table .entry)) n ⌝ }
+{
+    let start = 32 * n;
+    let end = start + 32;
+    read_words(&table[start..end])
 }
 
 // The entry e is stored under number n.
