@@ -12,7 +12,7 @@ use lib.Dec.{eqb, lit<, ltb}
 use lib.ListN.{getD, drop}
 use borrow.Author.Tests.{ltb-true}
 use Rattle.bits.specs.Fields.{bits, pack, unpack, Fit}
-use Rattle.layout.specs.Entry.{direct, free, indirect, wordWidths, wordList, wordsNumber, bit, endWidths, endFields, endFrom, directWidths, directFields, directNumber, directFrom, directOf, indirectWidths, indirectFields, indirectNumber, indirectFrom, indirectOf, typeOf, packAs, unpackAs, entryNumber, entryOf, packable, Fits, Storable, isFree, isDirect, isIndirect}
+use Rattle.layout.specs.Entry.{direct, free, indirect, wordWidths, wordList, wordsNumber, bit, endWidths, endFields, endFrom, directWidths, directFields, directNumber, directFrom, directOf, indirectWidths, indirectFields, indirectNumber, indirectFrom, indirectOf, typeOf, packAs, unpackAs, entryNumber, entryOf, packable, recounted, Fits, Storable, isFree, isDirect, isIndirect}
 use Rattle.layout.specs.declared.entry.Words.{Words}
 use Rattle.layout.specs.declared.entry.Entry.{Entry}
 use Rattle.bits.proofs.FieldLaws.{pack-lt, unpack-pack, pack-unpack, unpack-fit, regroup-pack, regroup-unpack, cut, groups}
@@ -257,6 +257,58 @@ pub back : (n : ℕ) → n < 2 ^ 256 → Laid (typeOf n) → entryNumber (entryO
 unfolding directNumber indirectNumber directOf indirectOf
 back n l (one t) = ap entryNumber (entry-as n t) ∙ number-as (directOf n) refl ∙ pack-as directWidths (directFields (directOf n)) n l (direct-fields n t)
 back n l (two t) = ap entryNumber (entry-as n t) ∙ number-as (indirectOf n) refl ∙ pack-as indirectWidths (indirectFields (indirectOf n)) n l (indirect-fields n t)
+
+-- the words of an entry with a layout are those of what is read of them
+words-back : (w : Words) {e : Entry} → Fit wordWidths (wordList w) → Laid (w .a / 2 ^ 61) → e ≡ entryOf (wordsNumber w) → wordsNumber w ≡ entryNumber e
+unfolding wordsNumber
+words-back w h k q = sym (ap entryNumber q ∙ back (wordsNumber w) (pack-lt wordWidths (wordList w) h) (subst Laid (sym (type-read w h)) k))
+
+-- the words with another count
+record Counted (x y k : ℕ) : Type 0 where
+  above : x / 2 ^ 61 ≡ y / 2 ^ 61
+  count : x / 2 ^ 45 % 2 ^ 16 ≡ k
+  below : x % 2 ^ 45 ≡ y % 2 ^ 45
+
+counted : (x y k : ℕ) → x < 2 ^ 64 → y < 2 ^ 64 → k < 2 ^ 16 → x ≡ pack (3 ∷ 16 ∷ 45 ∷ []) (y / 2 ^ 61 ∷ k ∷ y % 2 ^ 45 ∷ []) → Counted x y k
+counted x y k hx hy hk q =
+    let ws : List ℕ = 3 ∷ 16 ∷ 45 ∷ [] in
+    let vs : List ℕ = y / 2 ^ 61 ∷ k ∷ y % 2 ^ 45 ∷ [] in
+    let fields : unpack ws x ≡ vs = ap (unpack ws) q ∙ unpack-pack ws vs (shr-lt 3 61 hy, (hk, (mod-lt y (pow-pos 45), tt))) in
+    record {
+      above = sym (shr-mod 3 61 hx) ∙ ap (λ l. getD l 0 0) fields;
+      count = ap (λ l. getD l 1 0) fields;
+      below = ap (λ (z : ℕ). z % 2 ^ 45) (sym (div-one x)) ∙ ap (λ l. getD l 2 0) fields;
+    }
+
+module _ (w : Words) (k x : ℕ) (f : Fit wordWidths (wordList w)) (hx : x < 2 ^ 64) (hk : k < 2 ^ 16) where
+  pub recount-direct : w .a / 2 ^ 61 ≡ 1 → x ≡ pack (3 ∷ 16 ∷ 45 ∷ []) (w .b / 2 ^ 61 ∷ k ∷ w .b % 2 ^ 45 ∷ [])
+      → wordsNumber (record { a = w .a; b = x; c = w .c; d = w .d }) ≡ entryNumber (recounted (entryOf (wordsNumber w)) k)
+  unfolding directRead
+  recount-direct t q =
+      let v : Words = record { a = w .a; b = x; c = w .c; d = w .d } in
+      let g : Fit wordWidths (wordList v) = (f .0, (hx, f .1 .1)) in
+      let z = counted x (w .b) k hx (f .1 .0) hk q in
+      let m : Entry = endFrom 1 (unpack endWidths (w .d)) in
+      let same : recounted (directRead w m) k ≡ directRead v m = rw (z .above, z .count, z .below) in
+      words-back v g (one t) (ap (λ (e : Entry). recounted e k) (sym (direct-at w f t)) ∙ same ∙ direct-at v g t)
+
+  pub recount-indirect : w .a / 2 ^ 61 ≡ 2 → x ≡ pack (3 ∷ 16 ∷ 45 ∷ []) (w .c / 2 ^ 61 ∷ k ∷ w .c % 2 ^ 45 ∷ [])
+      → wordsNumber (record { a = w .a; b = w .b; c = x; d = w .d }) ≡ entryNumber (recounted (entryOf (wordsNumber w)) k)
+  unfolding indirectRead
+  recount-indirect t q =
+      let v : Words = record { a = w .a; b = w .b; c = x; d = w .d } in
+      let g : Fit wordWidths (wordList v) = (f .0, (f .1 .0, (hx, f .1 .1 .1))) in
+      let z = counted x (w .c) k hx (f .1 .1 .0) hk q in
+      let m : Entry = endFrom 2 (unpack endWidths (w .d)) in
+      let same : recounted (indirectRead w m) k ≡ indirectRead v m = rw (z .above, z .count, z .below) in
+      words-back v g (two t) (ap (λ (e : Entry). recounted e k) (sym (indirect-at w f t)) ∙ same ∙ indirect-at v g t)
+
+pub recount-other : (w : Words) (k : ℕ) → Fit wordWidths (wordList w) → (w .a / 2 ^ 61 ≡ 1 → ⊥) → (w .a / 2 ^ 61 ≡ 2 → ⊥)
+    → wordsNumber (record { a = 0; b = 0; c = 0; d = 0 }) ≡ entryNumber (recounted (entryOf (wordsNumber w)) k)
+unfolding wordsNumber
+recount-other w k f a b =
+    let e : Entry = recounted (entryOf (wordsNumber w)) k in
+    sym (number-as e (sym (ap (λ (x : Entry). x .kind) (shared-read w f))) ∙ pack-other (w .a / 2 ^ 61) e a b)
 
 -- and can be packed with nothing lost
 pub read-storable : (n : ℕ) → Laid (typeOf n) → Storable (entryOf n)

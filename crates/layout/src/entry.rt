@@ -7,7 +7,7 @@ ghost use Prim.Native.Nat.{_<_, _^_, _/_, _%_};
 ghost use lib.ListN.{length};
 ghost use Rattle.bits.specs.Fields.{pack, unpack};
 ghost use Rattle.bits.specs.Bytes.{bytes, number};
-ghost use Rattle.layout.specs.Entry.{bit, direct, directNumber, directOf, endFields, endFrom, endWidths, entryAt, entryBytes, entryNumber, entryOf, Fits, free, held, indirect, indirectNumber, indirectOf, packable, wordsNumber, writable, written};
+ghost use Rattle.layout.specs.Entry.{bit, direct, directNumber, directOf, endFields, endFrom, endWidths, entryAt, entryBytes, entryNumber, entryOf, Fits, free, held, indirect, indirectNumber, indirectOf, packable, recounted, wordsNumber, writable, written};
 
 // An entry: every field of every type. A field that its type does not have is zero.
 pub struct Entry {
@@ -62,7 +62,7 @@ pub fn read_words(part: &[u8]) -> Words
 }
 
 // The words are stored as 32 bytes.
-fn write_words(part: &mut [u8], w: Words)
+pub fn write_words(part: &mut [u8], w: Words)
     requires { ⌜ length (now part) ≡ 32 ⌝ }
     ensures { λ _. ⌜ now (part .exit) ≡ bytes 32 (wordsNumber w) ⌝ }
 {
@@ -314,6 +314,40 @@ pub fn holder_of(w: Words) -> u64
     }
 }
 
+// A word with another count: 3 bits stand above a count, 45 below.
+fn with_count(word: u64, count: u16) -> u64
+    ensures { λ r. ⌜ r ≡ pack (3 ∷ 16 ∷ 45 ∷ []) (word / 2 ^ 61 ∷ count ∷ word % 2 ^ 45 ∷ []) ⌝ }
+{
+    ((word >> 61) << 61) + ((count as u64) << 45) + word % (1 << 45)
+}
+
+// The words of the same entry with another count. Only types 1 and 2 have one.
+pub fn recounted(w: Words, count: u16) -> Words
+    ensures { λ r. ⌜ wordsNumber r ≡ entryNumber (recounted (entryOf (wordsNumber w)) count) ⌝ }
+{
+    let kind = w.a >> 61;
+    match kind {
+        1 => Words {
+            a: w.a,
+            b: with_count(w.b, count),
+            c: w.c,
+            d: w.d,
+        },
+        2 => Words {
+            a: w.a,
+            b: w.b,
+            c: with_count(w.c, count),
+            d: w.d,
+        },
+        _ => Words {
+            a: 0,
+            b: 0,
+            c: 0,
+            d: 0,
+        },
+    }
+}
+
 // The entry that 32 bytes hold.
 pub fn load(part: &[u8]) -> Entry
     requires { ⌜ length (now part) ≡ 32 ⌝ }
@@ -363,6 +397,18 @@ pub fn write(part: &mut [u8], e: Entry) -> bool
         }
     } else {
         false
+    }
+}
+
+// The words of a free entry.
+pub fn free_words() -> Words
+    ensures { λ r. ⌜ wordsNumber r ≡ entryNumber free ⌝ }
+{
+    Words {
+        a: 0,
+        b: 0,
+        c: 0,
+        d: 0,
     }
 }
 
