@@ -7,7 +7,7 @@ ghost use Prim.Native.Nat.{_<_, _^_, _/_, _%_};
 ghost use lib.ListN.{length};
 ghost use Rattle.bits.specs.Fields.{pack, unpack};
 ghost use Rattle.bits.specs.Bytes.{bytes, number};
-ghost use Rattle.layout.specs.Entry.{bit, direct, directNumber, directOf, endFields, endFrom, endWidths, entryAt, entryBytes, entryNumber, entryOf, Fits, free, held, indirect, indirectNumber, indirectOf, packable, recounted, wordsNumber, writable, written};
+ghost use Rattle.layout.specs.Entry.{bit, direct, directNumber, directOf, endFields, endFrom, endWidths, entryAt, entryBytes, entryNumber, entryOf, Fits, free, held, indirect, indirectNumber, indirectOf, packable, recounted, relocked, wordsNumber, writable, written};
 
 // An entry: every field of every type. A field that its type does not have is zero.
 pub struct Entry {
@@ -245,28 +245,10 @@ pub fn kind_of(w: Words) -> u8
     (w.a >> 61) as u8
 }
 
-pub fn permissions_of(w: Words) -> u8
-    ensures { λ r. ⌜ r ≡ entryOf (wordsNumber w) .permissions ⌝ }
-{
-    ((w.d >> 51) % 8) as u8
-}
-
-pub fn locked_of(w: Words) -> bool
-    ensures { λ r. ⌜ r ≡ entryOf (wordsNumber w) .locked ⌝ }
-{
-    (w.d >> 50) % 2 == 1
-}
-
 pub fn tag_of(w: Words) -> u16
     ensures { λ r. ⌜ r ≡ entryOf (wordsNumber w) .tag ⌝ }
 {
     ((w.d >> 32) % (1 << 16)) as u16
-}
-
-pub fn nonce_of(w: Words) -> u32
-    ensures { λ r. ⌜ r ≡ entryOf (wordsNumber w) .nonce ⌝ }
-{
-    (w.d % (1 << 32)) as u32
 }
 
 // The others go by the type.
@@ -282,17 +264,6 @@ pub fn base_of(w: Words) -> u32
     }
 }
 
-pub fn length_of(w: Words) -> u32
-    ensures { λ r. ⌜ r ≡ entryOf (wordsNumber w) .length ⌝ }
-{
-    let kind = w.a >> 61;
-    match kind {
-        1 => (w.a % (1 << 29) * 8 + (w.b >> 61)) as u32,
-        2 => (w.b % (1 << 29) * 8 + (w.c >> 61)) as u32,
-        _ => 0,
-    }
-}
-
 pub fn count_of(w: Words) -> u16
     ensures { λ r. ⌜ r ≡ entryOf (wordsNumber w) .count ⌝ }
 {
@@ -300,16 +271,6 @@ pub fn count_of(w: Words) -> u16
     match kind {
         1 => ((w.b >> 45) % (1 << 16)) as u16,
         2 => ((w.c >> 45) % (1 << 16)) as u16,
-        _ => 0,
-    }
-}
-
-pub fn holder_of(w: Words) -> u64
-    ensures { λ r. ⌜ r ≡ entryOf (wordsNumber w) .holder ⌝ }
-{
-    let kind = w.a >> 61;
-    match kind {
-        1 => w.b % (1 << 45) * 1024 + (w.c >> 54),
         _ => 0,
     }
 }
@@ -339,12 +300,45 @@ pub fn recounted(w: Words, count: u16) -> Words
             c: with_count(w.c, count),
             d: w.d,
         },
-        _ => Words {
-            a: 0,
-            b: 0,
-            c: 0,
-            d: 0,
+        _ => free_words(),
+    }
+}
+
+// The last word with another Locked, which stands in bit 50.
+fn with_locked(word: u64, locked: bool) -> u64
+    ensures { λ r. ⌜ r ≡ pack (13 ∷ 1 ∷ 50 ∷ []) (word / 2 ^ 51 ∷ bit locked ∷ word % 2 ^ 50 ∷ []) ⌝ }
+{
+    ((word >> 51) << 51) + (bit_of(locked) << 50) + word % (1 << 50)
+}
+
+// A direct entry's second word with another lock holder: its high 45 bits.
+fn with_holder(word: u64, holder: u64) -> u64
+    requires { ⌜ holder < 2 ^ 55 ⌝ }
+    ensures { λ r. ⌜ r ≡ pack (3 ∷ 16 ∷ 45 ∷ []) (word / 2 ^ 61 ∷ word / 2 ^ 45 % 2 ^ 16 ∷ holder / 1024 ∷ []) ⌝ }
+{
+    ((word >> 45) << 45) + holder / 1024
+}
+
+// The words of the same entry with another lock. Only type 1 has a holder.
+pub fn relocked(w: Words, locked: bool, holder: u64) -> Words
+    requires { ⌜ holder < 2 ^ 55 ⌝ }
+    ensures { λ r. ⌜ wordsNumber r ≡ entryNumber (relocked (entryOf (wordsNumber w)) locked holder) ⌝ }
+{
+    let kind = w.a >> 61;
+    match kind {
+        1 => Words {
+            a: w.a,
+            b: with_holder(w.b, holder),
+            c: direct_c(holder, w.c % (1 << 54) * 1024),
+            d: with_locked(w.d, locked),
         },
+        2 => Words {
+            a: w.a,
+            b: w.b,
+            c: w.c,
+            d: with_locked(w.d, locked),
+        },
+        _ => free_words(),
     }
 }
 
