@@ -7,12 +7,12 @@ use Prim.Native.Nat.{ℕ, zero, suc, _+_, _*_, _/_, _%_, _^_, _<_}
 use native.Mathlib.Nat.{div-one, mod-lt, mod-eq-of-lt, mul-one, add-zero, div-add-mod'}
 use native.Mathlib.Omega.{arith}
 use lib.Arith.{digits-lt}
-use lib.Pow.{pow-add, pow-pos, shr-lt, shr-mod}
+use lib.Pow.{mod-pow-add, pow-add, pow-pos, shr-lt, shr-mod}
 use lib.Dec.{eqb, lit<, ltb}
 use lib.ListN.{getD, drop}
 use borrow.Author.Tests.{ltb-true}
 use Rattle.bits.specs.Fields.{bits, pack, unpack, Fit}
-use Rattle.layout.specs.Entry.{direct, free, indirect, wordWidths, wordList, wordsNumber, bit, endWidths, endFields, endFrom, directWidths, directFields, directNumber, directFrom, directOf, indirectWidths, indirectFields, indirectNumber, indirectFrom, indirectOf, typeOf, packAs, unpackAs, entryNumber, entryOf, packable, Fits, Storable, isFree, isDirect, isIndirect}
+use Rattle.layout.specs.Entry.{direct, free, indirect, wordWidths, wordList, wordsNumber, bit, endWidths, endFields, endFrom, directWidths, directFields, directNumber, directFrom, directOf, indirectWidths, indirectFields, indirectNumber, indirectFrom, indirectOf, typeOf, packAs, unpackAs, entryNumber, entryOf, packable, recounted, relocked, Fits, Storable, isFree, isDirect, isIndirect}
 use Rattle.layout.specs.declared.entry.Words.{Words}
 use Rattle.layout.specs.declared.entry.Entry.{Entry}
 use Rattle.bits.proofs.FieldLaws.{pack-lt, unpack-pack, pack-unpack, unpack-fit, regroup-pack, regroup-unpack, cut, groups}
@@ -149,6 +149,34 @@ unpack-other (suc zero) n a b = absurd (a refl)
 unpack-other (suc (suc zero)) n a b = absurd (b refl)
 unpack-other (suc (suc (suc k))) n a b = refl
 
+-- what all types have, read of the words: the type, and what entries end with
+abbrev pub shared : Entry → Entry
+shared e = record { kind = e .kind; base = 0; length = 0; count = 0; holder = 0; user = 0; parent = 0; zeros = 0; permissions = e .permissions; locked = e .locked; lockable = e .lockable; cow = e .cow; tag = e .tag; nonce = e .nonce }
+
+shared-as : (k n : ℕ) → shared (unpackAs k n) ≡ endFrom k (unpack endWidths n)
+unfolding directOf indirectOf
+shared-as zero n = refl
+shared-as (suc zero) n = refl
+shared-as (suc (suc zero)) n = refl
+shared-as (suc (suc (suc k))) n = refl
+
+pub shared-read : (w : Words) → Fit wordWidths (wordList w) → endFrom (w .a / 2 ^ 61) (unpack endWidths (w .d)) ≡ shared (entryOf (wordsNumber w))
+shared-read w h =
+    let k : ℕ = w .a / 2 ^ 61 in
+    sym (ap shared (entry-read w h refl) ∙ shared-as k (wordsNumber w) ∙ ap (endFrom k) (end-read w h))
+
+-- all fields, read of the words, by the type
+pub direct-at : (w : Words) → Fit wordWidths (wordList w) → w .a / 2 ^ 61 ≡ 1 → directRead w (endFrom 1 (unpack endWidths (w .d))) ≡ entryOf (wordsNumber w)
+direct-at w h k = direct-read w h refl ∙ sym (entry-read w h k)
+
+pub indirect-at : (w : Words) → Fit wordWidths (wordList w) → w .a / 2 ^ 61 ≡ 2 → indirectRead w (endFrom 2 (unpack endWidths (w .d))) ≡ entryOf (wordsNumber w)
+indirect-at w h k = indirect-read w h refl ∙ sym (entry-read w h k)
+
+pub other-at : (w : Words) → Fit wordWidths (wordList w) → (w .a / 2 ^ 61 ≡ 1 → ⊥) → (w .a / 2 ^ 61 ≡ 2 → ⊥) → endFrom (w .a / 2 ^ 61) (unpack endWidths (w .d)) ≡ entryOf (wordsNumber w)
+other-at w h a b =
+    let k : ℕ = w .a / 2 ^ 61 in
+    ap (endFrom k) (sym (end-read w h)) ∙ sym (entry-read w h refl ∙ unpack-other k (wordsNumber w) a b)
+
 pub pack-other : (k : ℕ) (e : Entry) → (k ≡ 1 → ⊥) → (k ≡ 2 → ⊥) → packAs k e ≡ 0
 pack-other zero e a b = refl
 pack-other (suc zero) e a b = absurd (a refl)
@@ -218,6 +246,130 @@ pub back : (n : ℕ) → n < 2 ^ 256 → Laid (typeOf n) → entryNumber (entryO
 unfolding directNumber indirectNumber directOf indirectOf
 back n l (one t) = ap entryNumber (entry-as n t) ∙ number-as (directOf n) refl ∙ pack-as directWidths (directFields (directOf n)) n l (direct-fields n t)
 back n l (two t) = ap entryNumber (entry-as n t) ∙ number-as (indirectOf n) refl ∙ pack-as indirectWidths (indirectFields (indirectOf n)) n l (indirect-fields n t)
+
+-- the words of an entry with a layout are those of what is read of them
+words-back : (w : Words) {e : Entry} → Fit wordWidths (wordList w) → Laid (w .a / 2 ^ 61) → e ≡ entryOf (wordsNumber w) → wordsNumber w ≡ entryNumber e
+unfolding wordsNumber
+words-back w h k q = sym (ap entryNumber q ∙ back (wordsNumber w) (pack-lt wordWidths (wordList w) h) (subst Laid (sym (type-read w h)) k))
+
+-- the words with another count
+record Counted (x y k : ℕ) : Type 0 where
+  above : x / 2 ^ 61 ≡ y / 2 ^ 61
+  count : x / 2 ^ 45 % 2 ^ 16 ≡ k
+  below : x % 2 ^ 45 ≡ y % 2 ^ 45
+
+counted : (x y k : ℕ) → x < 2 ^ 64 → y < 2 ^ 64 → k < 2 ^ 16 → x ≡ pack (3 ∷ 16 ∷ 45 ∷ []) (y / 2 ^ 61 ∷ k ∷ y % 2 ^ 45 ∷ []) → Counted x y k
+counted x y k hx hy hk q =
+    let ws : List ℕ = 3 ∷ 16 ∷ 45 ∷ [] in
+    let vs : List ℕ = y / 2 ^ 61 ∷ k ∷ y % 2 ^ 45 ∷ [] in
+    let fields : unpack ws x ≡ vs = ap (unpack ws) q ∙ unpack-pack ws vs (shr-lt 3 61 hy, (hk, (mod-lt y (pow-pos 45), tt))) in
+    record {
+      above = sym (shr-mod 3 61 hx) ∙ ap (λ l. getD l 0 0) fields;
+      count = ap (λ l. getD l 1 0) fields;
+      below = ap (λ (z : ℕ). z % 2 ^ 45) (sym (div-one x)) ∙ ap (λ l. getD l 2 0) fields;
+    }
+
+module _ (w : Words) (k x : ℕ) (f : Fit wordWidths (wordList w)) (hx : x < 2 ^ 64) (hk : k < 2 ^ 16) where
+  pub recount-direct : w .a / 2 ^ 61 ≡ 1 → x ≡ pack (3 ∷ 16 ∷ 45 ∷ []) (w .b / 2 ^ 61 ∷ k ∷ w .b % 2 ^ 45 ∷ [])
+      → wordsNumber (record { a = w .a; b = x; c = w .c; d = w .d }) ≡ entryNumber (recounted (entryOf (wordsNumber w)) k)
+  unfolding directRead
+  recount-direct t q =
+      let v : Words = record { a = w .a; b = x; c = w .c; d = w .d } in
+      let g : Fit wordWidths (wordList v) = (f .0, (hx, f .1 .1)) in
+      let z = counted x (w .b) k hx (f .1 .0) hk q in
+      let m : Entry = endFrom 1 (unpack endWidths (w .d)) in
+      let same : recounted (directRead w m) k ≡ directRead v m = rw (z .above, z .count, z .below) in
+      words-back v g (one t) (ap (λ (e : Entry). recounted e k) (sym (direct-at w f t)) ∙ same ∙ direct-at v g t)
+
+  pub recount-indirect : w .a / 2 ^ 61 ≡ 2 → x ≡ pack (3 ∷ 16 ∷ 45 ∷ []) (w .c / 2 ^ 61 ∷ k ∷ w .c % 2 ^ 45 ∷ [])
+      → wordsNumber (record { a = w .a; b = w .b; c = x; d = w .d }) ≡ entryNumber (recounted (entryOf (wordsNumber w)) k)
+  unfolding indirectRead
+  recount-indirect t q =
+      let v : Words = record { a = w .a; b = w .b; c = x; d = w .d } in
+      let g : Fit wordWidths (wordList v) = (f .0, (f .1 .0, (hx, f .1 .1 .1))) in
+      let z = counted x (w .c) k hx (f .1 .1 .0) hk q in
+      let m : Entry = endFrom 2 (unpack endWidths (w .d)) in
+      let same : recounted (indirectRead w m) k ≡ indirectRead v m = rw (z .above, z .count, z .below) in
+      words-back v g (two t) (ap (λ (e : Entry). recounted e k) (sym (indirect-at w f t)) ∙ same ∙ indirect-at v g t)
+
+-- a type with no layout is written as a free entry, whatever its fields
+pub other-words : (w : Words) (e : Entry) {x : ℕ} → Fit wordWidths (wordList w) → (w .a / 2 ^ 61 ≡ 1 → ⊥) → (w .a / 2 ^ 61 ≡ 2 → ⊥) → e .kind ≡ entryOf (wordsNumber w) .kind → x ≡ entryNumber free → x ≡ entryNumber e
+unfolding entryNumber
+other-words w e f a b k q =
+    q ∙ sym (number-as e (k ∙ sym (ap (λ (y : Entry). y .kind) (shared-read w f))) ∙ pack-other (w .a / 2 ^ 61) e a b)
+
+bit-lt : (b : Bool) → bit b < 2
+bit-lt true = omega arith
+bit-lt false = omega arith
+
+-- the last word around one bit, and all its fields
+last-sum : (u p b k c g n : ℕ) → pack (13 ∷ 1 ∷ 50 ∷ []) ((u * 8 + p) ∷ b ∷ (k * 2 ^ 49 + (c * 2 ^ 48 + (g * 2 ^ 32 + n))) ∷ []) ≡ pack (10 ∷ endWidths) (u ∷ p ∷ b ∷ k ∷ c ∷ g ∷ n ∷ [])
+last-sum u p b k c g n = omega arith
+
+last-fields : (d b : ℕ) → pack (13 ∷ 1 ∷ 50 ∷ []) (d / 2 ^ 51 ∷ b ∷ d % 2 ^ 50 ∷ []) ≡ pack (10 ∷ endWidths) (d / 2 ^ 54 ∷ d / 2 ^ 51 % 8 ∷ b ∷ d / 2 ^ 49 % 2 ∷ d / 2 ^ 48 % 2 ∷ d / 2 ^ 32 % 2 ^ 16 ∷ d % 2 ^ 32 ∷ [])
+last-fields d b =
+    let high : d / 2 ^ 51 ≡ d / 2 ^ 54 * 8 + d / 2 ^ 51 % 8 = omega arith in
+    let lockable : d % 2 ^ 50 ≡ d / 2 ^ 49 % 2 * 2 ^ 49 + d % 2 ^ 49 = mod-pow-add d 1 49 in
+    let cow : d % 2 ^ 49 ≡ d / 2 ^ 48 % 2 * 2 ^ 48 + d % 2 ^ 48 = mod-pow-add d 1 48 in
+    let tag : d % 2 ^ 48 ≡ d / 2 ^ 32 % 2 ^ 16 * 2 ^ 32 + d % 2 ^ 32 = mod-pow-add d 16 32 in
+    let low = lockable ∙ ap (λ (x : ℕ). d / 2 ^ 49 % 2 * 2 ^ 49 + x) (cow ∙ ap (λ (x : ℕ). d / 2 ^ 48 % 2 * 2 ^ 48 + x) tag) in
+    ap (λ (x : ℕ). pack (13 ∷ 1 ∷ 50 ∷ []) (x ∷ b ∷ d % 2 ^ 50 ∷ [])) high
+    ∙ ap (λ (x : ℕ). pack (13 ∷ 1 ∷ 50 ∷ []) ((d / 2 ^ 54 * 8 + d / 2 ^ 51 % 8) ∷ b ∷ x ∷ [])) low
+    ∙ last-sum (d / 2 ^ 54) (d / 2 ^ 51 % 8) b (d / 2 ^ 49 % 2) (d / 2 ^ 48 % 2) (d / 2 ^ 32 % 2 ^ 16) (d % 2 ^ 32)
+
+-- the words with another lock
+module _ (w : Words) (l : Bool) (h x y z : ℕ) (f : Fit wordWidths (wordList w)) (hz : z < 2 ^ 64)
+    (qz : z ≡ pack (13 ∷ 1 ∷ 50 ∷ []) (w .d / 2 ^ 51 ∷ bit l ∷ w .d % 2 ^ 50 ∷ [])) where
+  lasts : unpack (10 ∷ endWidths) z ≡ w .d / 2 ^ 54 ∷ w .d / 2 ^ 51 % 8 ∷ bit l ∷ w .d / 2 ^ 49 % 2 ∷ w .d / 2 ^ 48 % 2 ∷ w .d / 2 ^ 32 % 2 ^ 16 ∷ w .d % 2 ^ 32 ∷ []
+  lasts =
+      let d : ℕ = w .d in
+      ap (unpack (10 ∷ endWidths)) (qz ∙ last-fields d (bit l))
+      ∙ unpack-pack (10 ∷ endWidths) _ (shr-lt 10 54 (f .1 .1 .1 .0), (mod-lt (d / 2 ^ 51) (pow-pos 3), (bit-lt l, (mod-lt (d / 2 ^ 49) (pow-pos 1), (mod-lt (d / 2 ^ 48) (pow-pos 1), (mod-lt (d / 2 ^ 32) (pow-pos 16), (mod-lt d (pow-pos 32), tt)))))))
+
+  above : z / 2 ^ 54 ≡ w .d / 2 ^ 54
+  above = sym (shr-mod 10 54 hz) ∙ ap (λ n. getD n 0 0) lasts
+
+  -- what all entries end with, with the new Locked
+  abbrev ending : ℕ → Entry
+  ending k = record { kind = k; base = 0; length = 0; count = 0; holder = 0; user = 0; parent = 0; zeros = 0; permissions = w .d / 2 ^ 51 % 8; locked = l; lockable = eqb (w .d / 2 ^ 49 % 2) 1; cow = eqb (w .d / 2 ^ 48 % 2) 1; tag = w .d / 2 ^ 32 % 2 ^ 16; nonce = w .d / 2 ^ 0 % 2 ^ 32 }
+
+  ended : (k : ℕ) → endFrom k (unpack endWidths z) ≡ ending k
+  ended k = ap (endFrom k) (ap (drop 1) lasts) ∙ rw (bit-eqb l, div-one (w .d))
+
+  pub relock-direct : x < 2 ^ 64 → y < 2 ^ 64 → h < 2 ^ 55 → w .a / 2 ^ 61 ≡ 1
+      → x ≡ pack (3 ∷ 16 ∷ 45 ∷ []) (w .b / 2 ^ 61 ∷ w .b / 2 ^ 45 % 2 ^ 16 ∷ h / 1024 ∷ [])
+      → y ≡ pack (10 ∷ 54 ∷ []) (h % 1024 ∷ w .c % 2 ^ 54 * 1024 / 1024 ∷ [])
+      → wordsNumber (record { a = w .a; b = x; c = y; d = z }) ≡ entryNumber (relocked (entryOf (wordsNumber w)) l h)
+  unfolding directRead
+  relock-direct hx hy hh t qx qy =
+      let v : Words = record { a = w .a; b = x; c = y; d = z } in
+      let g : Fit wordWidths (wordList v) = (f .0, (hx, (hy, (hz, tt)))) in
+      let m : Entry = endFrom 1 (unpack endWidths (w .d)) in
+      let q45 : w .c % 2 ^ 54 * 1024 / 1024 ≡ w .c % 2 ^ 54 = omega arith in
+      let bs : unpack (3 ∷ 16 ∷ 45 ∷ []) x ≡ w .b / 2 ^ 61 ∷ w .b / 2 ^ 45 % 2 ^ 16 ∷ h / 1024 ∷ [] = ap (unpack (3 ∷ 16 ∷ 45 ∷ [])) qx ∙ unpack-pack (3 ∷ 16 ∷ 45 ∷ []) _ (shr-lt 3 61 (f .1 .0), (mod-lt (w .b / 2 ^ 45) (pow-pos 16), (shr-lt 45 10 hh, tt))) in
+      let cs : unpack (10 ∷ 54 ∷ []) y ≡ h % 1024 ∷ w .c % 2 ^ 54 ∷ [] = ap (unpack (10 ∷ 54 ∷ [])) (rw q45 at qy) ∙ unpack-pack (10 ∷ 54 ∷ []) _ (mod-lt h (pow-pos 10), (mod-lt (w .c) (pow-pos 54), tt)) in
+      let b1 : x / 2 ^ 61 ≡ w .b / 2 ^ 61 = sym (shr-mod 3 61 hx) ∙ ap (λ n. getD n 0 0) bs in
+      let b2 : x / 2 ^ 45 % 2 ^ 16 ≡ w .b / 2 ^ 45 % 2 ^ 16 = ap (λ n. getD n 1 0) bs in
+      let b3 : x % 2 ^ 45 ≡ h / 1024 = ap (λ (n : ℕ). n % 2 ^ 45) (sym (div-one x)) ∙ ap (λ n. getD n 2 0) bs in
+      let c1 : y / 2 ^ 54 ≡ h % 1024 = sym (shr-mod 10 54 hy) ∙ ap (λ n. getD n 0 0) cs in
+      let c2 : y % 2 ^ 54 ≡ w .c % 2 ^ 54 = ap (λ (n : ℕ). n % 2 ^ 54) (sym (div-one y)) ∙ ap (λ n. getD n 1 0) cs in
+      let whole : h / 1024 * 1024 + h % 1024 ≡ h = omega arith in
+      let same : relocked (directRead w m) l h ≡ directRead v (ending 1) = rw (b1, b2, b3, c1, c2, above, whole) in
+      words-back v g (one t) (ap (λ (e : Entry). relocked e l h) (sym (direct-at w f t)) ∙ same ∙ ap (directRead v) (sym (ended 1)) ∙ direct-at v g t)
+
+  pub relock-indirect : w .a / 2 ^ 61 ≡ 2 → wordsNumber (record { a = w .a; b = w .b; c = w .c; d = z }) ≡ entryNumber (relocked (entryOf (wordsNumber w)) l h)
+  unfolding indirectRead indirectNumber
+  relock-indirect t =
+      let v : Words = record { a = w .a; b = w .b; c = w .c; d = z } in
+      let g : Fit wordWidths (wordList v) = (f .0, (f .1 .0, (f .1 .1 .0, (hz, tt)))) in
+      let e : Entry = relocked (indirectRead w (endFrom 2 (unpack endWidths (w .d)))) l h in
+      let e′ : Entry = indirectRead v (endFrom 2 (unpack endWidths z)) in
+      let same : indirectFields (indirectRead v (ending 2)) ≡ indirectFields e = rw above in
+      words-back v g (two t) (indirect-at v g t)
+      ∙ number-as e′ refl
+      ∙ ap (pack indirectWidths) (ap (λ (o : Entry). indirectFields (indirectRead v o)) (ended 2) ∙ same)
+      ∙ sym (number-as e refl)
+      ∙ ap (λ (o : Entry). entryNumber (relocked o l h)) (indirect-at w f t)
 
 -- and can be packed with nothing lost
 pub read-storable : (n : ℕ) → Laid (typeOf n) → Storable (entryOf n)

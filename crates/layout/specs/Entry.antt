@@ -179,6 +179,14 @@ indirect b l t p g ν = record {
   nonce = ν;
 }
 
+-- the entry with another count
+abbrev pub recounted : Entry → ℕ → Entry
+recounted e k = record { kind = e .kind; base = e .base; length = e .length; count = k; holder = e .holder; user = e .user; parent = e .parent; zeros = e .zeros; permissions = e .permissions; locked = e .locked; lockable = e .lockable; cow = e .cow; tag = e .tag; nonce = e .nonce }
+
+-- the entry with another lock
+abbrev pub relocked : Entry → Bool → ℕ → Entry
+relocked e l h = record { kind = e .kind; base = e .base; length = e .length; count = e .count; holder = h; user = e .user; parent = e .parent; zeros = e .zeros; permissions = e .permissions; locked = l; lockable = e .lockable; cow = e .cow; tag = e .tag; nonce = e .nonce }
+
 -- the entry can be packed with nothing lost: its fields fit, and those that its type does not have are zero
 pub data Storable (e : Entry) : Type 0 where
   isFree : e ≡ free → Storable e

@@ -7,7 +7,7 @@ ghost use Prim.Native.Nat.{_<_, _^_, _/_, _%_};
 ghost use lib.ListN.{length};
 ghost use Rattle.bits.specs.Fields.{pack, unpack};
 ghost use Rattle.bits.specs.Bytes.{bytes, number};
-ghost use Rattle.layout.specs.Entry.{bit, direct, directNumber, directOf, endFields, endFrom, endWidths, entryAt, entryBytes, entryNumber, entryOf, Fits, free, held, indirect, indirectNumber, indirectOf, packable, wordsNumber, writable, written};
+ghost use Rattle.layout.specs.Entry.{bit, direct, directNumber, directOf, endFields, endFrom, endWidths, entryAt, entryBytes, entryNumber, entryOf, Fits, free, held, indirect, indirectNumber, indirectOf, packable, recounted, relocked, wordsNumber, writable, written};
 
 // An entry: every field of every type. A field that its type does not have is zero.
 pub struct Entry {
@@ -49,7 +49,7 @@ pub enum Held {
 }
 
 // The words that 32 bytes hold.
-fn read_words(part: &[u8]) -> Words
+pub fn read_words(part: &[u8]) -> Words
     requires { ⌜ length (now part) ≡ 32 ⌝ }
     ensures { λ r. ⌜ wordsNumber r ≡ number 32 (now (part .entry)) ⌝ }
 {
@@ -62,7 +62,7 @@ fn read_words(part: &[u8]) -> Words
 }
 
 // The words are stored as 32 bytes.
-fn write_words(part: &mut [u8], w: Words)
+pub fn write_words(part: &mut [u8], w: Words)
     requires { ⌜ length (now part) ≡ 32 ⌝ }
     ensures { λ _. ⌜ now (part .exit) ≡ bytes 32 (wordsNumber w) ⌝ }
 {
@@ -237,6 +237,111 @@ fn entry_of(w: Words) -> Entry
     }
 }
 
+// Single fields of the entry that four words hold. What all types have stands in the same place
+// in each.
+pub fn kind_of(w: Words) -> u8
+    ensures { λ r. ⌜ r ≡ entryOf (wordsNumber w) .kind ⌝ }
+{
+    (w.a >> 61) as u8
+}
+
+pub fn tag_of(w: Words) -> u16
+    ensures { λ r. ⌜ r ≡ entryOf (wordsNumber w) .tag ⌝ }
+{
+    ((w.d >> 32) % (1 << 16)) as u16
+}
+
+// The others go by the type.
+pub fn base_of(w: Words) -> u32
+    ensures { λ r. ⌜ r ≡ entryOf (wordsNumber w) .base ⌝ }
+{
+    let kind = w.a >> 61;
+    let base = ((w.a >> 29) % (1 << 32)) as u32;
+    match kind {
+        1 => base,
+        2 => base,
+        _ => 0,
+    }
+}
+
+pub fn count_of(w: Words) -> u16
+    ensures { λ r. ⌜ r ≡ entryOf (wordsNumber w) .count ⌝ }
+{
+    let kind = w.a >> 61;
+    match kind {
+        1 => ((w.b >> 45) % (1 << 16)) as u16,
+        2 => ((w.c >> 45) % (1 << 16)) as u16,
+        _ => 0,
+    }
+}
+
+// A word with another count: 3 bits stand above a count, 45 below.
+fn with_count(word: u64, count: u16) -> u64
+    ensures { λ r. ⌜ r ≡ pack (3 ∷ 16 ∷ 45 ∷ []) (word / 2 ^ 61 ∷ count ∷ word % 2 ^ 45 ∷ []) ⌝ }
+{
+    ((word >> 61) << 61) + ((count as u64) << 45) + word % (1 << 45)
+}
+
+// The words of the same entry with another count. Only types 1 and 2 have one.
+pub fn recounted(w: Words, count: u16) -> Words
+    ensures { λ r. ⌜ wordsNumber r ≡ entryNumber (recounted (entryOf (wordsNumber w)) count) ⌝ }
+{
+    let kind = w.a >> 61;
+    match kind {
+        1 => Words {
+            a: w.a,
+            b: with_count(w.b, count),
+            c: w.c,
+            d: w.d,
+        },
+        2 => Words {
+            a: w.a,
+            b: w.b,
+            c: with_count(w.c, count),
+            d: w.d,
+        },
+        _ => free_words(),
+    }
+}
+
+// The last word with another Locked, which stands in bit 50.
+fn with_locked(word: u64, locked: bool) -> u64
+    ensures { λ r. ⌜ r ≡ pack (13 ∷ 1 ∷ 50 ∷ []) (word / 2 ^ 51 ∷ bit locked ∷ word % 2 ^ 50 ∷ []) ⌝ }
+{
+    ((word >> 51) << 51) + (bit_of(locked) << 50) + word % (1 << 50)
+}
+
+// A direct entry's second word with another lock holder: its high 45 bits.
+fn with_holder(word: u64, holder: u64) -> u64
+    requires { ⌜ holder < 2 ^ 55 ⌝ }
+    ensures { λ r. ⌜ r ≡ pack (3 ∷ 16 ∷ 45 ∷ []) (word / 2 ^ 61 ∷ word / 2 ^ 45 % 2 ^ 16 ∷ holder / 1024 ∷ []) ⌝ }
+{
+    ((word >> 45) << 45) + holder / 1024
+}
+
+// The words of the same entry with another lock. Only type 1 has a holder.
+pub fn relocked(w: Words, locked: bool, holder: u64) -> Words
+    requires { ⌜ holder < 2 ^ 55 ⌝ }
+    ensures { λ r. ⌜ wordsNumber r ≡ entryNumber (relocked (entryOf (wordsNumber w)) locked holder) ⌝ }
+{
+    let kind = w.a >> 61;
+    match kind {
+        1 => Words {
+            a: w.a,
+            b: with_holder(w.b, holder),
+            c: direct_c(holder, w.c % (1 << 54) * 1024),
+            d: with_locked(w.d, locked),
+        },
+        2 => Words {
+            a: w.a,
+            b: w.b,
+            c: w.c,
+            d: with_locked(w.d, locked),
+        },
+        _ => free_words(),
+    }
+}
+
 // The entry that 32 bytes hold.
 pub fn load(part: &[u8]) -> Entry
     requires { ⌜ length (now part) ≡ 32 ⌝ }
@@ -286,6 +391,18 @@ pub fn write(part: &mut [u8], e: Entry) -> bool
         }
     } else {
         false
+    }
+}
+
+// The words of a free entry.
+pub fn free_words() -> Words
+    ensures { λ r. ⌜ wordsNumber r ≡ entryNumber free ⌝ }
+{
+    Words {
+        a: 0,
+        b: 0,
+        c: 0,
+        d: 0,
     }
 }
 

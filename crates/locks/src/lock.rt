@@ -3,13 +3,15 @@ use checks::answer::Refusal;
 use checks::reach::Reached;
 use checks::reach::reach;
 use checks::settings::settings;
+use layout::entry::relocked;
 use layout::token::read;
 use rulings::answer::Outcome;
 use rulings::answer::plain;
 use rulings::answer::refused;
 use rulings::issuer::Issuer;
 use table::entries::entry_at;
-use table::entries::put_entry;
+use table::entries::put_words;
+use table::entries::words_at;
 ghost use mathlib.Core.Path.{_≡_};
 ghost use mathlib.Core.List.{[]};
 ghost use Prim.Native.Nat.{_+_, _*_, _^_, _≤_, _<_};
@@ -76,10 +78,7 @@ fn relock(mut s: Issuer, table: &mut [u8], n: usize, locked: bool, holder: u64) 
     requires { ⌜ (32 * n + 32 ≤ length (now table)) × (holder < 2 ^ 55) ⌝ }
     ensures { λ r. ⌜ handed r (now (table .exit)) ≡ relocking (issuerAs s) (now (table .entry)) n locked holder ⌝ }
 {
-    let mut e = entry_at(table, n);
-    e.locked = locked;
-    e.holder = holder;
-    put_entry(table, n, e);
+    put_words(table, n, relocked(words_at(table, n), locked, holder));
     plain(s, 0)
 }
 

@@ -1,6 +1,10 @@
 // Children: what derive and execute-only share.
 use checks::answer::Refusal;
+use layout::entry::base_of;
+use layout::entry::count_of;
 use layout::entry::indirect;
+use layout::entry::recounted;
+use layout::entry::tag_of;
 use rulings::allot::Allotted;
 use rulings::allot::allot;
 use rulings::answer::Outcome;
@@ -8,8 +12,8 @@ use rulings::answer::giving;
 use rulings::issue::issue;
 use rulings::issuer::Issuer;
 use rulings::token::token_of;
-use table::entries::entry_at;
-use table::entries::put_entry;
+use table::entries::put_words;
+use table::entries::words_at;
 ghost use mathlib.Core.Path.{_≡_};
 ghost use Rattle.rulings.specs.Allotments.{Allots, Settled};
 ghost use Rattle.references.specs.Children.{Bearing, bearing, childVerdict};
@@ -42,13 +46,12 @@ pub fn grant_child(
     requires { ⌜ Bearing (issuerAs s) (now table) n new offset permissions encoding ⌝ }
     ensures { λ r. ⌜ handed r (now (table .exit)) ≡ bearing (issuerAs s) (now (table .entry)) n offset length permissions encoding ⌝ }
 {
-    let mut e = entry_at(table, n);
-    let parent = token_of(1, n, e.tag);
+    let w = words_at(table, n);
+    let parent = token_of(1, n, tag_of(w));
     let nonce = s.next as u32;
-    let child = indirect(e.base + offset, length, parent, permissions, 0, nonce);
+    let child = indirect(base_of(w) + offset, length, parent, permissions, 0, nonce);
     let token = issue(s, table, new, child, encoding);
-    e.count += 1;
-    put_entry(table, n, e);
+    put_words(table, n, recounted(w, count_of(w) + 1));
     s.last = new as u64;
     s.next += 1;
     giving(s, token, 0)

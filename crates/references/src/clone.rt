@@ -3,6 +3,8 @@ use checks::answer::Refusal;
 use checks::reach::Reached;
 use checks::reach::reach_live;
 use checks::settings::settings;
+use layout::entry::count_of;
+use layout::entry::recounted;
 use layout::token::read;
 use rulings::answer::Checked;
 use rulings::answer::Outcome;
@@ -10,7 +12,8 @@ use rulings::answer::plain;
 use rulings::answer::refused;
 use rulings::issuer::Issuer;
 use table::entries::entry_at;
-use table::entries::put_entry;
+use table::entries::put_words;
+use table::entries::words_at;
 ghost use mathlib.Core.Path.{_≡_};
 ghost use mathlib.Core.List.{[]};
 ghost use lib.ListN.{length};
@@ -46,9 +49,8 @@ fn grant_clone(mut s: Issuer, table: &mut [u8], memory: u64, token: u64) -> Outc
 {
     let named = read(token);
     let n = named.number as usize;
-    let mut e = entry_at(table, n);
-    e.count += 1;
-    put_entry(table, n, e);
+    let w = words_at(table, n);
+    put_words(table, n, recounted(w, count_of(w) + 1));
     plain(s, 0)
 }
 

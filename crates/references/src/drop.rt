@@ -3,14 +3,16 @@ use checks::answer::Refusal;
 use checks::reach::Formed;
 use checks::reach::reach_formed;
 use checks::settings::settings;
-use layout::entry::free;
+use layout::entry::free_words;
+use layout::entry::recounted;
 use layout::token::read;
 use rulings::answer::Outcome;
 use rulings::answer::plain;
 use rulings::answer::refused;
 use rulings::issuer::Issuer;
 use table::entries::entry_at;
-use table::entries::put_entry;
+use table::entries::put_words;
+use table::entries::words_at;
 use table::line::linked;
 use table::line::parent_number;
 ghost use mathlib.Core.Path.{_≡_};
@@ -30,17 +32,16 @@ fn climb(table: &mut [u8], n: usize)
     requires { ⌜ 32 * n + 32 ≤ length (now table) ⌝ }
     ensures { λ _. ⌜ now (table .exit) ≡ climb (suc (at (now (table .entry)) n .nonce)) (now (table .entry)) n ⌝ }
 {
-    let mut e = entry_at(table, n);
+    let e = entry_at(table, n);
     if e.count == 0 {
         return;
     }
     if (2 <= e.count) | (e.kind == 1) {
-        e.count -= 1;
-        put_entry(table, n, e);
+        put_words(table, n, recounted(words_at(table, n), e.count - 1));
         return;
     }
     let up = linked(table, e);
-    put_entry(table, n, free());
+    put_words(table, n, free_words());
     if up {
         climb(table, parent_number(e) as usize);
     }

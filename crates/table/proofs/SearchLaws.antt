@@ -20,17 +20,17 @@ unfolding seek
 seek-step zero t k h = absurd (omega arith)
 seek-step (suc tries) t k h = let z : suc tries - 1 ≡ tries = omega arith in rw z
 
--- the ways on from number k, where j comes after it and e stands there
-module _ (t : List ℕ) (last k tries j : ℕ) (e : Entry) (inv : seek (size t - 1) t last ≡ seek tries t k) (more : 0 < tries)
-    (next : j ≡ cond (ltb (k + 1) (length t / 32)) (k + 1) 1) (is : e ≡ at t j) where
-  step : seek (size t - 1) t last ≡ cond (eqb (e .kind) 0) j (seek (tries - 1) t j)
+-- the ways on from number k, where j comes after it and an entry of type x stands there
+module _ (t : List ℕ) (last k tries j x : ℕ) (inv : seek (size t - 1) t last ≡ seek tries t k) (more : 0 < tries)
+    (next : j ≡ cond (ltb (k + 1) (length t / 32)) (k + 1) 1) (is : x ≡ at t j .kind) where
+  step : seek (size t - 1) t last ≡ cond (eqb x 0) j (seek (tries - 1) t j)
   unfolding size
   step = inv ∙ seek-step tries t k more ∙ rw (← next, ← is)
 
-  pub seek-found : e .kind ≡ 0 → j ≡ seek (size t - 1) t last
+  pub seek-found : x ≡ 0 → j ≡ seek (size t - 1) t last
   seek-found h = sym (step ∙ rw (eq-eqb _ _ h))
 
-  pub seek-on : (e .kind ≡ 0 → ⊥) → seek (size t - 1) t last ≡ seek (tries - 1) t j
+  pub seek-on : (x ≡ 0 → ⊥) → seek (size t - 1) t last ≡ seek (tries - 1) t j
   seek-on h = step ∙ rw (ne-eqb _ _ h)
 
 pub seek-none : (t : List ℕ) (last k tries : ℕ) → seek (size t - 1) t last ≡ seek tries t k → tries ≤ 0 → 0 ≡ seek (size t - 1) t last

@@ -1,12 +1,16 @@
 // Entries by number: entry n is the 32 bytes from 32 n on, and nothing else of the table is lent.
 use layout::entry::Entry;
+use layout::entry::Words;
 use layout::entry::load;
+use layout::entry::read_words;
 use layout::entry::store;
+use layout::entry::write_words;
 ghost use mathlib.Core.Path.{_≡_};
 ghost use Prim.Native.Nat.{_+_, _*_, _≤_};
 ghost use lib.ListN.{length};
-ghost use Rattle.layout.specs.Entry.{Fits};
+ghost use Rattle.layout.specs.Entry.{entryOf, Fits, wordsNumber};
 ghost use Rattle.machine.specs.Parts.{at, put};
+ghost use Rattle.table.specs.Stores.{Stored};
 
 // The entry of number n.
 pub fn entry_at(table: &[u8], n: usize) -> Entry
@@ -18,6 +22,16 @@ pub fn entry_at(table: &[u8], n: usize) -> Entry
     load(&table[start..end])
 }
 
+// Its four words, for whoever needs only some of its fields.
+pub fn words_at(table: &[u8], n: usize) -> Words
+    requires { ⌜ 32 * n + 32 ≤ length (now table) ⌝ }
+    ensures { λ r. ⌜ entryOf (wordsNumber r) ≡ at (now (table .entry)) n ⌝ }
+{
+    let start = 32 * n;
+    let end = start + 32;
+    read_words(&table[start..end])
+}
+
 // The entry e is stored under number n.
 pub fn put_entry(table: &mut [u8], n: usize, e: Entry)
     requires { ⌜ 32 * n + 32 ≤ length (now table) ⌝ }
@@ -27,4 +41,14 @@ pub fn put_entry(table: &mut [u8], n: usize, e: Entry)
     let start = 32 * n;
     let end = start + 32;
     store(&mut table[start..end], e);
+}
+
+// The words are stored under number n: it holds the entry whose words they are.
+pub fn put_words(table: &mut [u8], n: usize, w: Words)
+    requires { ⌜ 32 * n + 32 ≤ length (now table) ⌝ }
+    ensures { λ _. ⌜ Stored (now (table .entry)) n w (now (table .exit)) ⌝ }
+{
+    let start = 32 * n;
+    let end = start + 32;
+    write_words(&mut table[start..end], w);
 }

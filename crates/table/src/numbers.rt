@@ -1,5 +1,6 @@
 // New numbers.
-use crate::entries::entry_at;
+use crate::entries::words_at;
+use layout::entry::kind_of;
 ghost use mathlib.Core.Path.{_≡_};
 ghost use mathlib.Core.Bool.{cond};
 ghost use Prim.Native.Nat.{_+_, _-_, _/_, _≤_, _<_};
@@ -27,8 +28,7 @@ pub fn new_number(table: &[u8], last: usize) -> usize
     let mut tries = count - 1;
     while 0 < tries {
         k = after(count, k);
-        let e = entry_at(table, k);
-        if e.kind == 0 {
+        if kind_of(words_at(table, k)) == 0 {
             return k;
         }
         tries -= 1;

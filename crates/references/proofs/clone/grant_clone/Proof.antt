@@ -3,7 +3,7 @@
 use Prim.Native.Nat.{_<_}
 use native.Mathlib.Omega.{arith}
 use borrow.Author.Needs.{needs}
-use Rattle.table.proofs.FitLaws.{at-fits, recount-fits}
+use Rattle.layout.specs.Entry.{entryOf, wordsNumber}
 use Rattle.references.proofs.CloneLaws.{clone-few, clone-grants, clone-in}
 use Rattle.references.proofs.clone.grant_clone.Statement.{statement}
 use Rattle.references.proofs.clone.grant_clone.Tie as tie
@@ -14,16 +14,20 @@ grant-clone-spec =
     (tie.spec
     (λ c κs. search needs)
     (λ c κs. rw (c .before .read .ensures) (clone-in _ _ _ _ (c .before .before .before .pre)))
+    (λ c κs. search needs)
     (λ c.
-    let e = c .before in
-    let few : e .entry-at .result .count < 65535 = rw (e .entry-at .ensures, e .before .before .read .ensures) (clone-few _ _ _ _ (e .before .before .before .before .pre)) in
+    let w = c .before .before in
+    let few : c .count-of .result < 65535 = rw (c .count-of .ensures, w .words-at .ensures, w .before .before .read .ensures) (clone-few _ _ _ _ (w .before .before .before .before .pre)) in
     omega (arith, few))
+    (λ c κs. search needs)
     (λ c κs.
-    let e = c .before .before in
-    (rw (e .before .before .read .ensures) (clone-in _ _ _ _ (e .before .before .before .before .pre)), recount-fits (e .entry-at .result) _ (rw (e .entry-at .ensures) (at-fits _ _))))
+    let w = c .before .before .before in
+    rw (w .before .before .read .ensures) (clone-in _ _ _ _ (w .before .before .before .before .pre)))
     (λ c κs. search needs)
     (λ c. search needs)
     (λ c.
     let p = c .before .before .before in
-    let e = p .before .before .before in
-    clone-grants _ _ _ _ (e .before .before .read .result) (e .entry-at .result) _ _ (e .before .before .read .ensures) (e .entry-at .ensures) (p .put-entry .ensures) (c .plain .ensures)))
+    let k = p .before .before in
+    let w = k .before .before in
+    let r = w .before .before in
+    clone-grants _ _ _ _ (r .read .result) (entryOf (wordsNumber (w .words-at .result))) _ _ (r .read .ensures) (w .words-at .ensures) (p .put-words .ensures _ (rw (k .count-of .ensures) at (p .before .recounted .ensures))) (c .plain .ensures)))

@@ -1,0 +1,29 @@
+-- `table::entries::words_at` meets its contract: the part has 32 bytes.
+-- Assumes nothing.
+use mathlib.Core.Path.{ap}
+use native.Mathlib.Nat.{add-sub-cancel-left}
+use native.Mathlib.Omega.{arith}
+use borrow.Author.Needs.{needs}
+use Rattle.layout.specs.Entry.{entryOf}
+use Rattle.machine.specs.Parts.{size}
+use Rattle.machine.proofs.TableLaws.{at-in}
+use Rattle.table.proofs.entries.words_at.Statement.{statement}
+use Rattle.table.proofs.entries.words_at.Tie as tie
+
+returns : tie.Need-returns
+unfolding size
+returns c =
+    let a = c .before .before .before .args in
+    rw (at-in (a .table .now) (a .n) (omega (arith, c .before .before .before .pre))) (ap entryOf (rw add-sub-cancel-left at (c .read-words .ensures)))
+
+pub words-at-spec : {M : Type 1} → statement M
+words-at-spec =
+    tie.close
+    (tie.spec
+    (λ c. search needs)
+    (λ c. search needs)
+    (λ c. search needs)
+    (λ c. search needs)
+    (λ c. search needs)
+    (λ c κs. search needs)
+    returns)
