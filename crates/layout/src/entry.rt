@@ -62,7 +62,7 @@ fn read_words(part: &[u8]) -> Words
 }
 
 // The words are stored as 32 bytes.
-fn write_words(part: &mut [u8], w: Words)
+pub fn write_words(part: &mut [u8], w: Words)
     requires { ⌜ length (now part) ≡ 32 ⌝ }
     ensures { λ _. ⌜ now (part .exit) ≡ bytes 32 (wordsNumber w) ⌝ }
 {

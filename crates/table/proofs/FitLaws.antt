@@ -7,7 +7,6 @@ use Prim.Native.Nat.{ℕ, _<_, _^_}
 use native.Mathlib.Omega.{arith}
 use native.Mathlib.Decide.{decLt}
 use Rattle.layout.specs.Entry.{Fits}
-use Rattle.layout.specs.Tag.{retag}
 use Rattle.layout.specs.declared.entry.Entry.{Entry}
 use Rattle.layout.proofs.EntryLaws.{free-fits, read-fits}
 use Rattle.machine.specs.Operations.{recount, relock}
@@ -26,6 +25,3 @@ recount-fits e k f = record { permissions = f .permissions; holder = f .holder; 
 
 pub relock-fits : (e : Entry) (b : Bool) (h : ℕ) → h < 2 ^ 55 → Fits e → Fits (relock e b h)
 relock-fits e b h l f = record { permissions = f .permissions; holder = l; zeros = f .zeros }
-
-pub retag-fits : (e : Entry) (g : ℕ) → Fits e → Fits (retag e g)
-retag-fits e g f = record { permissions = f .permissions; holder = f .holder; zeros = f .zeros }
