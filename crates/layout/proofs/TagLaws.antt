@@ -5,11 +5,9 @@ use mathlib.Core.List.{List, _++_}
 use Prim.Native.Nat.{ℕ, _/_, _%_, _^_, _<_}
 use lib.ListN.{length}
 use Rattle.bits.specs.Bytes.{bytes, lowBytes, lowNumber, number}
-use Rattle.layout.specs.Entry.{entryNumber, wordList, wordsNumber, wordWidths}
+use Rattle.layout.specs.Entry.{wordList, wordsNumber, wordWidths}
 use Rattle.bits.specs.Fields.{Fit}
-use Rattle.bits.specs.SipHash.{absorb, compress, finish, padded, start, word}
-use Rattle.layout.specs.Tag.{retag, tagOf}
-use Rattle.layout.specs.declared.entry.Entry.{Entry}
+use Rattle.bits.specs.SipHash.{absorb, compress, finish, padded, siphash, start, word}
 use Rattle.layout.specs.declared.entry.Words.{Words}
 use Rattle.bits.specs.declared.siphash.Lanes.{Lanes}
 use Rattle.bits.proofs.ByteLaws.{low-round}
@@ -39,8 +37,8 @@ absorbed : (w : Words) (n : ℕ) (v : Lanes) → n < 2 ^ 64 → absorb 5 (messag
 unfolding absorb word bytes lowBytes lowNumber number
 absorbed w n v l = ap (compress (compress (compress (compress (compress v (low (w .a))) (low (w .b))) (low (w .c))) (low (w .d)))) (low-round 8 n l)
 
-pub tagged : (k0 k1 n : ℕ) (w : Words) (e : Entry) → Fit wordWidths (wordList w) → n < 2 ^ 64 → wordsNumber w ≡ entryNumber (retag e 0)
-    → tagOf k0 k1 e n ≡ finish (compress (fiveWords (start k0 k1) w n) 0x2800000000000000) % 65536
-unfolding tagOf wordsNumber
-tagged k0 k1 n w e f l h =
-    rw (← h, bytes-words (wordList w) f, hashed k0 k1 (message w n), five w n, sixth w n, absorbed w n (start k0 k1) l)
+pub hash-words : (k0 k1 n : ℕ) (w : Words) → Fit wordWidths (wordList w) → n < 2 ^ 64
+    → siphash k0 k1 (bytes 32 (wordsNumber w) ++ lowBytes 8 n) % 2 ^ 16 ≡ finish (compress (fiveWords (start k0 k1) w n) 0x2800000000000000) % 65536
+unfolding wordsNumber
+hash-words k0 k1 n w f l =
+    rw (bytes-words (wordList w) f, hashed k0 k1 (message w n), five w n, sixth w n, absorbed w n (start k0 k1) l)

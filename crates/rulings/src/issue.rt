@@ -2,8 +2,7 @@
 use crate::issuer::Issuer;
 use crate::token::token_of;
 use layout::entry::Entry;
-use table::entries::put_entry;
-use table::issue::issued;
+use table::issue::issue_at;
 ghost use mathlib.Core.Path.{_≡_};
 ghost use Prim.Native.Nat.{_+_, _*_, _≤_, _<_};
 ghost use lib.ListN.{length};
@@ -20,7 +19,6 @@ pub fn issue(s: Issuer, table: &mut [u8], n: usize, e: Entry, encoding: u64) -> 
     ensures { λ r. ⌜ r ≡ tokenOf encoding n (issue (issuerAs s) n e) ⌝ }
     ensures { λ _. ⌜ now (table .exit) ≡ put (now (table .entry)) n (issue (issuerAs s) n e) ⌝ }
 {
-    let i = issued(s.key0, s.key1, n, e);
-    put_entry(table, n, i);
-    token_of(encoding, n, i.tag)
+    let t = issue_at(table, s.key0, s.key1, n, e);
+    token_of(encoding, n, t)
 }

@@ -1,13 +1,11 @@
--- What stands in the table fits its fields, and still does with another tag.
+-- What stands in the table fits its fields.
 -- Assumes nothing.
-use mathlib.Core.Path.{_≡_, sym, subst}
+use mathlib.Core.Path.{sym, subst}
 use mathlib.Core.List.{List}
 use Prim.Native.Nat.{ℕ, _<_}
 use native.Mathlib.Omega.{arith}
 use native.Mathlib.Decide.{decLt}
 use Rattle.layout.specs.Entry.{Fits}
-use Rattle.layout.specs.Tag.{retag}
-use Rattle.layout.specs.declared.entry.Entry.{Entry}
 use Rattle.layout.proofs.EntryLaws.{free-fits, read-fits}
 use Rattle.machine.specs.Parts.{at, size}
 use Rattle.machine.proofs.TableLaws.{at-in, at-out}
@@ -18,6 +16,3 @@ at-fits t n = go (decLt n (size t))
     go : Dec (n < size t) → Fits (at t n)
     go (yes h) = subst Fits (sym (at-in t n h)) (read-fits _)
     go (no h) = subst Fits (sym (at-out t n (omega arith))) free-fits
-
-pub retag-fits : (e : Entry) (g : ℕ) → Fits e → Fits (retag e g)
-retag-fits e g f = record { permissions = f .permissions; holder = f .holder; zeros = f .zeros }

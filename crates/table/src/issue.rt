@@ -1,23 +1,27 @@
 // Issues: an entry gets its tag under its number.
 use layout::entry::Entry;
 use layout::entry::direct;
+use layout::tag::store_tagged;
 use layout::tag::tag;
 ghost use mathlib.Core.Path.{_≡_};
 ghost use mathlib.Core.Bool.{true};
-ghost use Prim.Native.Nat.{ℕ, _-_, _≤_};
+ghost use Prim.Native.Nat.{ℕ, _+_, _*_, _-_, _≤_};
+ghost use lib.ListN.{length};
 ghost use Rattle.layout.specs.Entry.{direct, Fits};
 ghost use Rattle.machine.specs.Issuing.{issue, passOver};
-ghost use Rattle.machine.specs.Parts.{spent};
+ghost use Rattle.machine.specs.Parts.{put, spent};
 ghost use Rattle.table.specs.Keys.{keyed};
 
-// The entry e, with its nonce, as it is issued under number n.
-pub fn issued(k0: u64, k1: u64, n: usize, e: Entry) -> Entry
+// The entry e, with its nonce, is issued under number n; gives its tag.
+pub fn issue_at(table: &mut [u8], k0: u64, k1: u64, n: usize, e: Entry) -> u16
+    requires { ⌜ 32 * n + 32 ≤ length (now table) ⌝ }
     requires { ⌜ Fits e ⌝ }
-    ensures { λ r. ⌜ r ≡ issue (keyed k0 k1) n e ⌝ }
+    ensures { λ r. ⌜ r ≡ issue (keyed k0 k1) n e .tag ⌝ }
+    ensures { λ _. ⌜ now (table .exit) ≡ put (now (table .entry)) n (issue (keyed k0 k1) n e) ⌝ }
 {
-    let mut i = e;
-    i.tag = tag(k0, k1, e, n as u64);
-    i
+    let start = 32 * n;
+    let end = start + 32;
+    store_tagged(&mut table[start..end], k0, k1, e, n as u64)
 }
 
 // The first nonce from the next one on with which a segment, all of whose rights are fresh, is

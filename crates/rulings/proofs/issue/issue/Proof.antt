@@ -1,7 +1,6 @@
--- `rulings::issue::issue` meets its contract: what is issued fits as the entry does.
+-- `rulings::issue::issue` meets its contract: the token has the tag that was stored.
 -- Assumes nothing.
 use borrow.Author.Needs.{needs}
-use Rattle.table.proofs.FitLaws.{retag-fits}
 use Rattle.rulings.proofs.issue.issue.Statement.{statement}
 use Rattle.rulings.proofs.issue.issue.Tie as tie
 
@@ -10,7 +9,6 @@ issue-spec =
     tie.close
     (tie.spec
     (λ c κs. search needs)
-    (λ c κs. let a = c .before .before .before in (a .pre .0 .0, rw (c .before .issued .ensures) (retag-fits (a .args .e) _ (a .pre .1 .1))))
     (λ c κs. search needs)
     (λ c. search needs)
-    (λ c. let i = c .before .before .before .before .before in (rw (c .token-of .ensures, i .issued .ensures), rw (c .before .before .before .put-entry .ensures, i .issued .ensures))))
+    (λ c. let i = c .before .before .before in (rw (c .token-of .ensures, i .issue-at .ensures .0), i .issue-at .ensures .1)))
