@@ -1,6 +1,6 @@
 -- Revoke: the ways out of its checks, and what they leave.
 -- Assumes nothing.
-use mathlib.Core.Path.{_≡_, _∙_}
+use mathlib.Core.Path.{_≡_, _∙_, ap}
 use mathlib.Core.Bool.{Bool, true, false, _&&_}
 use mathlib.Core.List.{List, [], _∷_, _++_}
 use Prim.Native.Nat.{ℕ, _+_, _-_, _*_, _/_, _≤_, _<_}
@@ -9,15 +9,17 @@ use lib.Dec.{eqb, leb, ltb}
 use lib.ListN.{length, replicate}
 use lib.Seq.{sets}
 use borrow.Author.Tests.{eq-eqb, le-ltb, leb-true, lt-ltb, ltb-true, ne-eqb}
-use Rattle.layout.specs.Token.{named}
+use Rattle.layout.specs.Entry.{direct}
+use Rattle.layout.specs.Tag.{tagOf}
+use Rattle.layout.specs.Token.{named, token}
 use Rattle.layout.specs.declared.entry.Entry.{Entry}
 use Rattle.layout.specs.declared.token.Named.{Named}
 use Rattle.checks.specs.Answers.{liveVerdict}
 use Rattle.checks.specs.Holds.{settingsHold}
 use Rattle.checks.proofs.ReachLaws.{reached-inside}
 use Rattle.checks.proofs.VerdictLaws.{all-passed, first-stops, Passed, token-passes, token-stops}
-use Rattle.machine.specs.Issuing.{issue, passOver}
-use Rattle.machine.specs.Operations.{fresh, numberOf, revokeNonce, tokenOf}
+use Rattle.machine.specs.Issuing.{passOver}
+use Rattle.machine.specs.Operations.{fresh, numberOf, revokeNonce}
 use Rattle.machine.specs.Parts as parts
 use Rattle.machine.specs.Parts.{at, put, size, spent}
 use Rattle.machine.specs.Requests.{revoke}
@@ -25,7 +27,7 @@ use Rattle.machine.specs.Steps.{memoryAfter, pass, stop, Verdict}
 use Rattle.machine.specs.Stops.{Check, checks, encodingFits, isDirect, live, need, noOffset, settings}
 use Rattle.table.specs.Keys.{keyed}
 use Rattle.table.proofs.SearchLaws.{pass-keyed}
-use Rattle.segments.specs.Renewals.{renewNonce, Renews, renewVerdict}
+use Rattle.segments.specs.Renewals.{renewNonce, Renews, renewTag, renewVerdict}
 use Rattle.rulings.specs.Rulings.{giving, grantedEffect, granting, handed, issuerAs, verdictOn}
 use Rattle.rulings.specs.declared.answer.Outcome.{Outcome}
 use Rattle.rulings.specs.declared.issuer.Issuer.{Issuer}
@@ -45,6 +47,10 @@ module _ (s : parts.State) (n : ℕ) (e : Entry) where
     unfolding renewNonce
     renew-nonce = found ∙ pass-keyed (spent - s .next) s n (fresh e) (e .tag) (s .next)
 
+    pub renew-tag : (g : ℕ) → g ≡ tagOf (s .key0) (s .key1) (fresh e x) n → g ≡ renewTag s n e
+    unfolding renewTag
+    renew-tag g h = h ∙ ap (λ (ν : ℕ). tagOf (s .key0) (s .key1) (fresh e ν) n) renew-nonce
+
     pub renew-spent : e .kind ≡ 1 → spent ≤ x → renewVerdict s n e ≡ stop 11 0
     unfolding renewVerdict
     renew-spent d h = rw (eq-eqb (e .kind) 1 d, ← renew-nonce, le-ltb x spent h)
@@ -53,9 +59,9 @@ module _ (s : parts.State) (n : ℕ) (e : Entry) where
     unfolding renewVerdict
     renew-pass d h = rw (eq-eqb (e .kind) 1 d, ← renew-nonce, lt-ltb x spent h)
 
--- the same of an equal verdict and nonce
-pub renews-as : (r : Renewal) (v w : Verdict) (ν μ : ℕ) → w ≡ v → μ ≡ ν → Renews r v ν → Renews r w μ
-renews-as r v w ν μ e f h = rw (e, f) h
+-- the same of an equal verdict, nonce and tag
+pub renews-as : (r : Renewal) (v w : Verdict) (ν μ g k : ℕ) → w ≡ v → μ ≡ ν → k ≡ g → Renews r v ν g → Renews r w μ k
+renews-as r v w ν μ g k e f i h = rw (e, f, i) h
 
 -- ---- all places
 
@@ -111,13 +117,14 @@ revocable m s t k c h = facts m s t k c (passed-on m s t (revoke k c) [] h)
 
 -- where the token is read as n, its entry as e, and it is issued anew as new
 module _ (m : ℕ) (s : Issuer) (t : List ℕ) (k c : ℕ) (n : Named) (e : Entry) (is : n ≡ named k) (there : e ≡ at t (n .number)) where
-  pub revoke-grants : (new : Entry) (x first : ℕ) (r : Outcome) (t′ : List ℕ)
-      → x ≡ renewNonce (issuerAs s) (numberOf k) (at t (numberOf k)) → new ≡ fresh e x
-      → first ≡ tokenOf c (n .number) (issue (issuerAs s) (n .number) new) → t′ ≡ put t (n .number) (issue (issuerAs s) (n .number) new)
+  pub revoke-grants : (new : Entry) (x g first : ℕ) (r : Outcome) (t′ : List ℕ)
+      → x ≡ renewNonce (issuerAs s) (numberOf k) (at t (numberOf k)) → g ≡ renewTag (issuerAs s) (numberOf k) (at t (numberOf k))
+      → new ≡ direct (e .base) (e .length) 0 7 true g x → first ≡ token c (record { tag = g; number = n .number; offset = 0 })
+      → t′ ≡ put t (n .number) new
       → r ≡ giving (record { key0 = s .key0; key1 = s .key1; last = s .last; next = x + 1 }) first 0
       → handed r t′ ≡ granting m (issuerAs s) t (revoke k c) []
-  unfolding granting renewNonce
-  revoke-grants new x first r t′ nonce anew gives now done = rw (done, gives, now, anew, nonce, there, is)
+  unfolding granting renewNonce renewTag
+  revoke-grants new x g first r t′ nonce tag anew gives now done = rw (done, gives, now, anew, tag, nonce, there, is)
 
   pub revoke-clears : (memory memory′ : List ℕ) → memory′ ≡ sets memory (e .base) (replicate (e .length) 0)
       → memory′ ≡ memoryAfter (grantedEffect m (issuerAs s) t (revoke k c) []) memory

@@ -45,5 +45,5 @@ check-revoke-spec =
     let e = c .before in
     let l = e .before .before .before in
     let n = l .before .before .before .before in
-    renews-as (c .renew .result) _ _ _ _ (revoke-live _ _ _ _ _ _ (n .read .ensures) (first (l .before)) (e .entry-at .result) (e .entry-at .ensures) (token l _ (e .before .enum-told .given .1) .0)) (rw (e .entry-at .ensures, n .read .ensures)) (c .renew .ensures))
+    renews-as (c .renew .result) _ _ _ _ _ _ (revoke-live _ _ _ _ _ _ (n .read .ensures) (first (l .before)) (e .entry-at .result) (e .entry-at .ensures) (token l _ (e .before .enum-told .given .1) .0)) (rw (e .entry-at .ensures, n .read .ensures)) (rw (e .entry-at .ensures, n .read .ensures)) (c .renew .ensures))
     (λ c. revoke-request _ _ _ _ _ _ (c .before .before .before .read .ensures) (rw (c .before .before .settings .ensures) at (c .if1 .left))))

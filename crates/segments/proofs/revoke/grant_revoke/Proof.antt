@@ -17,8 +17,8 @@ pass : (c : tie.Start)
     Revocable (length (a .memory .now)) (issuerAs (a .s)) (a .table .now) (a .token) (a .encoding)
 pass c = revocable _ _ _ _ _ (c .pre .0)
 
-nonce : (c : tie.Start) → c .args .nonce < spent
-nonce c = rw (c .pre .1) (pass c .nonce)
+nonce : (c : tie.Start) → c .args .new .nonce < spent
+nonce c = rw (c .pre .1 .0) (pass c .nonce)
 
 pub grant-revoke-spec : {M : Type 1} → statement M
 grant-revoke-spec =
@@ -26,25 +26,32 @@ grant-revoke-spec =
     (tie.spec
     (λ c κs. search needs)
     (λ c κs. rw (c .before .read .ensures) (pass (c .before .before .before .before) .inside))
-    (λ c. omega (arith, nonce (c .before .before .before .before .before)))
+    (λ c. omega (arith, nonce (c .before .before .before .before .before .before)))
     (λ c κs. search needs)
     (λ c κs.
-    let n = c .before .before .before .before in
+    let n = c .before .before .before .before .before in
     let p = pass (n .before .before .before) in
-    ((rw (n .read .ensures) (p .inside), rw (n .read .ensures) (p .small)), (p .encoded, rw (c .before .direct .ensures) (direct-fits _ _ _ 7 _ _ _ (omega arith)))))
+    (rw (n .read .ensures) (p .inside), rw (c .before .direct .ensures) (direct-fits _ _ _ 7 _ _ _ (omega arith))))
     (λ c. search needs)
     (λ c. search needs)
     (λ c κs.
-    let e = c .before .before .before .before .before .before .before .before in
+    let e = c .before .before .before .before .before .before .before .before .before in
     let n = e .before .before in
     rw (e .entry-at .ensures, n .read .ensures) (pass (n .before .before .before) .segment))
-    (λ c. omega (arith, nonce (c .before .before .before .before .before .before .before .before .before .before .before .before .before .before .before .before)))
+    (λ c κs.
+    let n = c .before .before .before .before .before .before .before .before .before .before .before .before .before .before in
+    let p = pass (n .before .before .before) in
+    (p .encoded, rw (n .read .ensures) (p .small)))
+    (λ c. omega (arith, nonce (c .before .before .before .before .before .before .before .before .before .before .before .before .before .before .before .before .before .before .before)))
     (λ c κs. search needs)
     (λ c. search needs)
     (λ c. search needs)
     (λ c.
-    let f = c .before .before .before in
+    let g = c .before .before in
+    let f = g .before .before .before in
     let i = f .before .before .before .before .before .before in
-    let e = i .before .before .before in
+    let d = i .before .before in
+    let e = d .before .before in
     let n = e .before .before in
-    (revoke-grants _ _ _ _ _ (n .read .result) (e .entry-at .result) (n .read .ensures) (e .entry-at .ensures) (i .before .before .direct .result) _ _ _ _ (n .before .before .before .pre .1) (i .before .before .direct .ensures) (i .issue .ensures .0) (i .issue .ensures .1) (c .giving .ensures), revoke-clears _ _ _ _ _ (n .read .result) (e .entry-at .result) (n .read .ensures) (e .entry-at .ensures) _ _ (f .clear-from .ensures))))
+    let s = n .before .before .before in
+    (revoke-grants _ _ _ _ _ (n .read .result) (e .entry-at .result) (n .read .ensures) (e .entry-at .ensures) (d .direct .result) _ _ _ _ _ (s .pre .1 .0) (s .pre .1 .1) (d .direct .ensures) (g .token-of .ensures) (i .put-entry .ensures) (c .giving .ensures), revoke-clears _ _ _ _ _ (n .read .result) (e .entry-at .result) (n .read .ensures) (e .entry-at .ensures) _ _ (f .clear-from .ensures))))

@@ -1,7 +1,7 @@
 -- `segments::revoke::renew` meets its contract: a law for each way out.
 -- Assumes nothing.
 use borrow.Author.Needs.{needs}
-use Rattle.segments.proofs.RevokeLaws.{renew-kind, renew-nonce, renew-pass, renew-spent}
+use Rattle.segments.proofs.RevokeLaws.{renew-kind, renew-nonce, renew-pass, renew-spent, renew-tag}
 use Rattle.segments.proofs.revoke.renew.Statement.{statement}
 use Rattle.segments.proofs.revoke.renew.Tie as tie
 
@@ -11,7 +11,8 @@ renew-spec =
     (tie.spec
     (λ c κs. search needs)
     (λ c.
-    let p = c .before in
-    (renew-pass _ _ _ _ (p .pass-over .ensures) (p .before .if1 .taken) (c .if2 .taken), renew-nonce _ _ _ _ (p .pass-over .ensures)))
-    (λ c. let p = c .before in renew-spent _ _ _ _ (p .pass-over .ensures) (p .before .if1 .taken) (c .if2 .left))
+    let p = c .before .before in
+    let found = p .pass-over .ensures in
+    (renew-pass _ _ _ _ (found .0) (p .before .if1 .taken) (c .if2 .taken), (renew-nonce _ _ _ _ (found .0), renew-tag _ _ _ _ (found .0) _ (found .1 (c .if2 .taken)))))
+    (λ c. let p = c .before .before in renew-spent _ _ _ _ (p .pass-over .ensures .0) (p .before .if1 .taken) (c .if2 .left))
     (λ c. renew-kind _ _ _ (c .if1 .left)))

@@ -6,7 +6,7 @@ use lib.ListN.{length}
 use borrow.Author.Needs.{needs}
 use Rattle.machine.specs.Operations.{namedEntry, numberOf}
 use Rattle.machine.specs.Requests as request
-use Rattle.segments.specs.Renewals.{renewNonce, Renews}
+use Rattle.segments.specs.Renewals.{renewNonce, Renews, renewTag}
 use Rattle.rulings.specs.Rulings.{issuerAs, verdictOn}
 use Rattle.segments.specs.declared.revoke.Renewal.{Renewal}
 use Rattle.rulings.proofs.RulingLaws.{decided-pass, decided-stop, effect-pass, effect-stop}
@@ -16,7 +16,7 @@ use Rattle.segments.proofs.revoke.revoke.Tie as tie
 -- what is known of the checks, where they come to r
 known : (c : tie.After-check-revoke) (r : Renewal) → c .check-revoke .result ≡ r
     → let a = c .before .before .before .before .args in
-    Renews r (verdictOn (length (a .memory .now)) (issuerAs (a .s)) (a .table .now) (request.revoke (a .token) (a .encoding)) []) (renewNonce (issuerAs (a .s)) (numberOf (a .token)) (namedEntry (a .table .now) (a .token)))
+    Renews r (verdictOn (length (a .memory .now)) (issuerAs (a .s)) (a .table .now) (request.revoke (a .token) (a .encoding)) []) (renewNonce (issuerAs (a .s)) (numberOf (a .token)) (namedEntry (a .table .now) (a .token))) (renewTag (issuerAs (a .s)) (numberOf (a .token)) (namedEntry (a .table .now) (a .token)))
 known c r q = rw q at (c .check-revoke .ensures)
 
 pub revoke-spec : {M : Type 1} → statement M

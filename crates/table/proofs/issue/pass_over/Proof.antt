@@ -32,8 +32,10 @@ pass-over-spec =
     (λ c. search needs)
     (λ c κs. search needs)
     (λ c κs. rw (c .direct .ensures) (direct-fits _ _ _ 7 _ _ _ (omega arith)))
-    (λ c. let d = c .before .before in pass-found _ _ _ _ _ _ _ _ _ (d .direct .result) (d .before .before .loop .inv .1) (d .before .loop-test .taken) (d .direct .ensures) (c .before .tag .ensures) (c .if1 .taken))
+    (λ c.
+    let d = c .before .before in
+    (pass-found _ _ _ _ _ _ _ _ _ (d .direct .result) (d .before .before .loop .inv .1) (d .before .loop-test .taken) (d .direct .ensures) (c .before .tag .ensures) (c .if1 .taken), λ l. rw (← d .direct .ensures) (c .before .tag .ensures)))
     (λ c. search needs)
     (λ c. search needs)
     (λ c. (search needs, (let d = c .before .before in pass-on _ _ _ _ _ _ _ _ _ (d .direct .result) (d .before .before .loop .inv .1) (d .before .loop-test .taken) (d .direct .ensures) (c .before .tag .ensures) (c .if1 .left))))
-    (λ c. search (needs, pass-none)))
+    (λ c. (search (needs, pass-none), λ l. absurd (omega (arith, l, c .loop-test .left)))))
