@@ -16,9 +16,9 @@ use crate::thread::Stack;
 /// The deepest line: a table has 1,024 entries, and one of them is the owner.
 pub const DEEPEST: usize = 1_023;
 
-/// No call may need more stack than this. A drop calls itself once for each link that it climbs: 320
+/// No call may need more stack than this. A drop calls itself once for each link that it climbs: 80
 /// bytes for each of 1,023 links, and 4,096 for all that stands above them.
-pub const BOUND: usize = DEEPEST * 320 + 4_096;
+pub const BOUND: usize = DEEPEST * 80 + 4_096;
 
 /// The stack to measure on, well above the bound.
 const SIZE: usize = 4 << 20;

@@ -1,9 +1,9 @@
 -- Access: the ways out of its checks, and what they leave.
 -- Assumes nothing.
-use mathlib.Core.Path.{_≡_, refl, sym, _∙_}
+use mathlib.Core.Path.{_≡_, refl}
 use mathlib.Core.Bool.{Bool, true, false, _&&_}
 use mathlib.Core.List.{List, _∷_, _++_}
-use Prim.Native.Nat.{ℕ, _+_, _*_, _^_, _≤_}
+use Prim.Native.Nat.{ℕ, _+_, _^_, _≤_}
 use lib.Dec.{leb, ltb}
 use lib.ListN.{length}
 use Rattle.layout.specs.Permissions.{within}
@@ -12,13 +12,12 @@ use Rattle.layout.specs.declared.entry.Entry.{Entry}
 use Rattle.layout.specs.declared.token.Named.{Named}
 use Rattle.checks.specs.Answers.{reachVerdict}
 use Rattle.checks.specs.Holds.{settingsHold}
-use Rattle.checks.proofs.ReachLaws.{reach-in}
-use Rattle.checks.proofs.VerdictLaws.{first-stops, parts-pass, passed, token-passes, token-stops}
+use Rattle.checks.proofs.VerdictLaws.{first-stops, passed, token-passes, token-stops}
 use Rattle.machine.specs.Operations.{numberOf, transfer}
 use Rattle.machine.specs.Parts as parts
 use Rattle.machine.specs.Parts.{at}
 use Rattle.machine.specs.Requests.{access, rightOf, Way}
-use Rattle.machine.specs.Steps.{pass, stop, Verdict}
+use Rattle.machine.specs.Steps.{pass, stop}
 use Rattle.machine.specs.Stops.{Check, checks, reachable, settings, taskFits, transferFits}
 use Rattle.machine.proofs.Lent.{access-inside}
 use Rattle.rulings.specs.Rulings.{decided, effectOn, grantedEffect, granting, handed, plainly, issuerAs, verdictOn}
@@ -70,16 +69,12 @@ module _ (m : ℕ) (s : parts.State) (t : List ℕ) (w : Way) (k u : ℕ) (b : L
     unfolding verdictOn settingsHold reachVerdict
     access-token r p h = token-stops first (reachable m t k u) last tt r p ok h
 
-    pub access-rest : (v : Verdict) → reachVerdict m t k u ≡ pass → v ≡ transferVerdict t w k (length b) → v ≡ verdictOn m s t (access w k u) b
+    pub access-rest : reachVerdict m t k u ≡ pass → verdictOn m s t (access w k u) b ≡ transferVerdict t w k (length b)
     unfolding verdictOn settingsHold reachVerdict transferVerdict
-    access-rest v h e = e ∙ sym (token-passes first (reachable m t k u) last tt ok h)
+    access-rest h = token-passes first (reachable m t k u) last tt ok h
 
-  -- what a pass says: the entry is in the table, and the transfer in memory
+  -- what a pass says: the transfer lies in memory
   module _ (h : verdictOn m s t (access w k u) b ≡ pass) where
-    pub access-in : 32 * numberOf k + 32 ≤ length t
-    unfolding verdictOn reachVerdict
-    access-in = reach-in m t k u (parts-pass first (reachable m t k u) (parts-pass (first ++ reachable m t k u) last h .0) .1)
-
     pub access-room : startOf t k + length b ≤ m
     unfolding verdictOn
     access-room = access-inside m s t w k u b (passed (checks m s t (access w k u) b) h)

@@ -6,10 +6,13 @@ use Prim.Native.Nat.{ℕ, _+_}
 use lib.Dec.{leb}
 use lib.ListN.{length}
 use Rattle.layout.specs.Token.{named}
+use Rattle.checks.specs.Answers.{stopAs}
 use Rattle.machine.specs.Operations.{load, namedEntry, transfer}
 use Rattle.machine.specs.Requests as request
-use Rattle.machine.specs.Steps.{Verdict, verdict}
+use Rattle.machine.specs.Steps.{pass, Verdict, verdict}
 use Rattle.machine.specs.Stops.{Check, inBounds, rightsHeld}
+use Rattle.accesses.specs.declared.access.Transfer.{Transfer}
+use Rattle.accesses.specs.declared.access.Transfer.the-variants.{From, Stop}
 use Rattle.accesses.specs.declared.access.Way.{Way}
 use Rattle.accesses.specs.declared.access.Way.the-variants.{Fetch, Read, Write}
 
@@ -28,6 +31,11 @@ transferVerdict t w k n = verdict (transferChecks t w k n)
 -- where an access begins in memory
 abbrev pub startOf : List ℕ → ℕ → ℕ
 startOf t k = namedEntry t k .base + named k .offset
+
+-- the checks came to the verdict v; an access that passes begins at a
+abbrev pub Begins : Transfer → Verdict → (start : ℕ) → Type 0
+Begins (Stop why) v a = v ≡ stopAs why
+Begins (From x) v a = (v ≡ pass) × (x ≡ a)
 
 -- the way takes bytes from memory
 abbrev pub Loads : request.Way → Type 0

@@ -5,7 +5,6 @@ use checks::reach::reach;
 use checks::settings::settings;
 use layout::permissions::within;
 use layout::token::read;
-use rulings::answer::Checked;
 use rulings::answer::Outcome;
 use rulings::answer::plain;
 use rulings::answer::refused;
@@ -20,13 +19,20 @@ ghost use lib.Seq.{sets};
 ghost use Rattle.machine.specs.Operations.{numberOf};
 ghost use Rattle.machine.specs.Requests as request;
 ghost use Rattle.machine.specs.Steps.{bufferAfter, memoryAfter};
-ghost use Rattle.rulings.specs.Rulings.{checkedAs, decided, effectOn, handed, issuerAs, verdictOn};
-ghost use Rattle.accesses.specs.Ways.{Loads, startOf, transferVerdict, wayAs};
+ghost use Rattle.rulings.specs.Rulings.{decided, effectOn, handed, issuerAs, verdictOn};
+ghost use Rattle.accesses.specs.Ways.{Begins, Loads, startOf, transferVerdict, wayAs};
 
 pub enum Way {
     Read,
     Write,
     Fetch,
+}
+
+// What the checks of an access come to: where it stops, or where in memory it begins, at the
+// segment's base and the token's offset.
+pub enum Transfer {
+    Stop(Refusal),
+    From(u64),
 }
 
 // The permission that an access needs.
@@ -55,19 +61,19 @@ fn inside(offset: u64, bytes: u64, length: u64) -> bool
 }
 
 // Places 7 and 8: the right, and the bounds.
-fn check_transfer(s: Issuer, table: &[u8], way: Way, token: u64, bytes: u64) -> Checked
+fn check_transfer(table: &[u8], way: Way, token: u64, bytes: u64) -> Transfer
     requires { ⌜ 32 * numberOf token + 32 ≤ length (now table) ⌝ }
-    ensures { λ r. ⌜ checkedAs r ≡ transferVerdict (now (table .entry)) (wayAs way) token bytes ⌝ }
+    ensures { λ r. ⌜ Begins r (transferVerdict (now (table .entry)) (wayAs way) token bytes) (startOf (now (table .entry)) token) ⌝ }
 {
     let named = read(token);
     let e = entry_at(table, named.number as usize);
     if !within(right_of(way), e.permissions) {
-        return Checked::Stop(Refusal::Right);
+        return Transfer::Stop(Refusal::Right);
     }
     if inside(named.offset, bytes, e.length as u64) {
-        Checked::Pass
+        Transfer::From((e.base as u64) + named.offset)
     } else {
-        Checked::Stop(Refusal::Bounds)
+        Transfer::Stop(Refusal::Bounds)
     }
 }
 
@@ -79,29 +85,19 @@ fn check_access(
     token: u64,
     task: u64,
     buffer: &[u8],
-) -> Checked
-    ensures { λ r. ⌜ checkedAs r ≡ verdictOn memory (issuerAs s) (now (table .entry)) (request.access (wayAs way) token task) (now (buffer .entry)) ⌝ }
+) -> Transfer
+    ensures { λ r. ⌜ Begins r (verdictOn memory (issuerAs s) (now (table .entry)) (request.access (wayAs way) token task) (now (buffer .entry))) (startOf (now (table .entry)) token) ⌝ }
 {
     let bytes = buffer.len();
     if settings(memory, table, s.last, s.next) & (task < 1 << 55) & (1 <= bytes) & (bytes <= 4096) {
         let r = reach(table, memory, token, task);
         match r {
-            Reached::Stop(why) => Checked::Stop(why),
-            Reached::Owner(_) => check_transfer(s, table, way, token, bytes as u64),
+            Reached::Stop(why) => Transfer::Stop(why),
+            Reached::Owner(_) => check_transfer(table, way, token, bytes as u64),
         }
     } else {
-        Checked::Stop(Refusal::Request)
+        Transfer::Stop(Refusal::Request)
     }
-}
-
-// Where in memory the access begins: at the segment's base and the token's offset.
-fn start_of(table: &[u8], token: u64) -> u64
-    requires { ⌜ (32 * numberOf token + 32 ≤ length (now table)) × (startOf (now table) token < 2 ^ 64) ⌝ }
-    ensures { λ r. ⌜ r ≡ startOf (now (table .entry)) token ⌝ }
-{
-    let named = read(token);
-    let e = entry_at(table, named.number as usize);
-    (e.base as u64) + named.offset
 }
 
 // The bytes of memory from the start on fill the buffer.
@@ -138,10 +134,9 @@ pub fn fill(
 {
     let r = check_access(s, table, memory.len() as u64, way, token, task, buffer);
     match r {
-        Checked::Stop(why) => refused(s, why),
-        Checked::Pass => {
-            let start = start_of(table, token) as usize;
-            load(memory, start, buffer);
+        Transfer::Stop(why) => refused(s, why),
+        Transfer::From(start) => {
+            load(memory, start as usize, buffer);
             plain(s, 0)
         }
     }
@@ -169,10 +164,9 @@ pub fn write(
         buffer,
     );
     match r {
-        Checked::Stop(why) => refused(s, why),
-        Checked::Pass => {
-            let start = start_of(table, token) as usize;
-            store(memory, start, buffer);
+        Transfer::Stop(why) => refused(s, why),
+        Transfer::From(start) => {
+            store(memory, start as usize, buffer);
             plain(s, 0)
         }
     }

@@ -1,12 +1,14 @@
 -- `accesses::access::check_access` meets its contract: a law for each way out.
 -- Assumes nothing.
-use mathlib.Core.Path.{_≡_, sym, _∙_, ap}
+use mathlib.Core.Path.{_≡_}
 use borrow.Author.Needs.{needs}
 use Rattle.machine.specs.Line.{lineOf}
 use Rattle.machine.specs.Operations.{numberOf}
 use Rattle.checks.specs.Answers.{Reaches, reachVerdict}
 use Rattle.checks.specs.declared.reach.Reached.{Reached}
 use Rattle.checks.proofs.ReachLaws.{reach-in}
+use Rattle.rulings.specs.Rulings.{issuerAs}
+use Rattle.accesses.specs.Ways.{wayAs}
 use Rattle.accesses.proofs.AccessLaws.{access-request, access-rest, access-token}
 use Rattle.accesses.proofs.access.check_access.Statement.{statement}
 use Rattle.accesses.proofs.access.check_access.Tie as tie
@@ -27,8 +29,9 @@ check-access-spec =
     (λ c κs. reach-in _ _ _ _ (token (c .before .before) _ (c .enum-told .given .1) .0))
     (λ c.
     let l = c .before .before .before in
-    sym (access-token _ _ _ _ _ _ _ (rw (l .before .before .settings .ensures) at (l .before .if1 .taken)) _ _ (token l _ (c .before .r .given .1))))
+    access-token _ _ _ _ _ _ _ (rw (l .before .before .settings .ensures) at (l .before .if1 .taken)) _ _ (token l _ (c .before .r .given .1)))
     (λ c.
     let l = c .before .before .before in
-    access-rest _ _ _ _ _ _ _ (rw (l .before .before .settings .ensures) at (l .before .if1 .taken)) _ (token l _ (c .before .enum-told .given .1) .0) (c .check-transfer .ensures))
-    (λ c. sym (access-request _ _ _ _ _ _ _ (rw (c .before .settings .ensures) at (c .if1 .left)))))
+    let a = l .before .before .before .before .before .args in
+    rw (access-rest (a .memory) (issuerAs (a .s)) (a .table .now) (wayAs (a .way)) (a .token) (a .task) (a .buffer .now) (rw (l .before .before .settings .ensures) at (l .before .if1 .taken)) (token l _ (c .before .enum-told .given .1) .0)) (c .check-transfer .ensures))
+    (λ c. access-request _ _ _ _ _ _ _ (rw (c .before .settings .ensures) at (c .if1 .left))))

@@ -1,23 +1,22 @@
 -- `accesses::access::fill` meets its contract: it is decided by its verdict.
 -- Assumes nothing.
-use mathlib.Core.Path.{_≡_, refl, sym, _∙_, ap}
-use native.Mathlib.Omega.{arith}
+use mathlib.Core.Path.{_≡_}
 use lib.ListN.{length}
 use borrow.Author.Needs.{needs}
 use Rattle.machine.specs.Requests as request
-use Rattle.machine.specs.Steps.{bufferAfter, pass}
 use Rattle.rulings.specs.Rulings.{issuerAs, verdictOn}
-use Rattle.accesses.specs.Ways.{wayAs}
-use Rattle.accesses.proofs.AccessLaws.{access-effect, access-grants, access-in, access-room}
-use Rattle.rulings.proofs.RulingLaws.{decided-stop, effect-stop, verdict-pass, verdict-stop}
+use Rattle.rulings.proofs.RulingLaws.{decided-stop, effect-stop}
+use Rattle.accesses.specs.Ways.{Begins, startOf, wayAs}
+use Rattle.accesses.specs.declared.access.Transfer.{Transfer}
+use Rattle.accesses.proofs.AccessLaws.{access-effect, access-grants, access-room}
 use Rattle.accesses.proofs.access.fill.Statement.{statement}
 use Rattle.accesses.proofs.access.fill.Tie as tie
 
-passes : (c : tie.After-enum-told)
-    → let k = c .before .before in
-    let a = k .before .before .before .before .before .args in
-    verdictOn (length (a .memory .now)) (issuerAs (a .s)) (a .table .now) (request.access (wayAs (a .way)) (a .token) (a .task)) (a .buffer .now) ≡ pass
-passes c = verdict-pass _ _ _ _ _ _ (c .before .before .check-access .ensures) (c .enum-told .given .1)
+-- what the checks come to
+checked : (c : tie.After-check-access) (r : Transfer) → c .check-access .result ≡ r
+    → let a = c .before .before .before .before .before .args in
+    Begins r (verdictOn (length (a .memory .now)) (issuerAs (a .s)) (a .table .now) (request.access (wayAs (a .way)) (a .token) (a .task)) (a .buffer .now)) (startOf (a .table .now) (a .token))
+checked c r q = rw q at (c .check-access .ensures)
 
 pub fill-spec : {M : Type 1} → statement M
 fill-spec =
@@ -27,16 +26,13 @@ fill-spec =
     (λ c. search needs)
     (λ c κs. search needs)
     (λ c. search needs)
-    (λ c κs. (access-in _ _ _ _ _ _ _ (passes c), omega (arith, access-room _ _ _ _ _ _ _ (passes c))))
-    (λ c κs. rw (c .before .start-of .ensures) (access-room _ _ _ _ _ _ _ (passes (c .before .before))))
+    (λ c κs. let q = checked (c .before .before .before .before) _ (c .before .before .r2 .given .1) in rw (q .1) (access-room _ _ _ _ _ _ _ (q .0)))
     (λ c κs. search needs)
     (λ c. search needs)
     (λ c.
-    let k = c .before .before .before .before in
-    let v = verdict-stop _ _ _ _ _ _ (k .check-access .ensures) _ (c .before .before .r .given .1) in
+    let v = checked (c .before .before .before .before) _ (c .before .before .r .given .1) in
     (decided-stop _ _ _ _ _ _ _ (c .refused .ensures) v, rw (effect-stop _ _ _ _ _ _ _ v)))
     (λ c. search needs)
     (λ c.
-    let l = c .before .before .before in
-    let p = passes (l .before .before .before) in
-    (access-grants _ _ _ _ _ _ _ _ (c .plain .ensures) p, rw (access-effect _ _ _ _ _ _ _ p, l .before .before .before .before .before .before .before .before .before .before .pre) (rw (l .before .before .start-of .ensures) at (l .load .ensures)))))
+    let q = checked (c .before .before .before .before .before .before .before .before) _ (c .before .before .before .before .before .before .r2 .given .1) in
+    (access-grants _ _ _ _ _ _ _ _ (c .plain .ensures) (q .0), rw (access-effect _ _ _ _ _ _ _ (q .0), c .before .before .before .before .before .before .before .before .before .before .before .before .before .pre) (rw (q .1) at (c .before .before .before .load .ensures)))))
