@@ -5,7 +5,7 @@ use checks::reach::reach;
 use checks::settings::settings;
 use layout::entry::Entry;
 use layout::entry::direct;
-use layout::entry::free;
+use layout::entry::free_words;
 use layout::permissions::within;
 use layout::token::read;
 use rulings::allot::Allotted;
@@ -16,7 +16,7 @@ use rulings::answer::refused;
 use rulings::issue::issue;
 use rulings::issuer::Issuer;
 use table::entries::entry_at;
-use table::entries::put_entry;
+use table::entries::put_words;
 ghost use mathlib.Core.Path.{_≡_};
 ghost use mathlib.Core.Bool.{cond};
 ghost use mathlib.Core.List.{[]};
@@ -108,7 +108,7 @@ fn leave(
     ensures { λ r. ⌜ handed r (now (table .exit)) ≡ leaving (issuerAs s) (now (table .entry)) n new e length first encoding ⌝ }
 {
     if length == e.length {
-        put_entry(table, n, free());
+        put_words(table, n, free_words());
         s.last = new as u64;
         s.next += 1;
         giving(s, first, 0)

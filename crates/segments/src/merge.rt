@@ -5,7 +5,7 @@ use checks::reach::reach;
 use checks::settings::settings;
 use layout::entry::Entry;
 use layout::entry::direct;
-use layout::entry::free;
+use layout::entry::free_words;
 use layout::token::read;
 use rulings::answer::Checked;
 use rulings::answer::Outcome;
@@ -14,7 +14,7 @@ use rulings::answer::refused;
 use rulings::issue::issue;
 use rulings::issuer::Issuer;
 use table::entries::entry_at;
-use table::entries::put_entry;
+use table::entries::put_words;
 ghost use mathlib.Core.Path.{_≡_};
 ghost use mathlib.Core.List.{[]};
 ghost use Prim.Native.Nat.{_+_, _<_, _^_};
@@ -125,7 +125,7 @@ fn grant_merge(
     let d = entry_at(table, n);
     let e = entry_at(table, k);
     let whole = joined(d, e, s.next as u32);
-    put_entry(table, k, free());
+    put_words(table, k, free_words());
     let token = issue(s, table, n, whole, encoding);
     s.next += 1;
     giving(s, token, 0)

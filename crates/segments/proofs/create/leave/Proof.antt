@@ -3,7 +3,8 @@
 use mathlib.Core.Path.{refl}
 use native.Mathlib.Omega.{arith}
 use borrow.Author.Needs.{needs}
-use Rattle.layout.proofs.EntryLaws.{direct-fits, free-fits}
+use Rattle.layout.specs.Entry.{free}
+use Rattle.layout.proofs.EntryLaws.{direct-fits}
 use Rattle.segments.proofs.CreateLaws.{leaves-none, leaves-rest, rest-nonce}
 use Rattle.segments.proofs.create.leave.Statement.{statement}
 use Rattle.segments.proofs.create.leave.Tie as tie
@@ -13,7 +14,7 @@ leave-spec =
     tie.close
     (tie.spec
     (λ c κs. search needs)
-    (λ c κs. let s = c .before .before .before .before .before in (s .pre .inside, rw (c .free .ensures) free-fits))
+    (λ c κs. c .before .before .before .before .before .pre .inside)
     (λ c. search needs)
     (λ c κs. search needs)
     (λ c. search needs)
@@ -32,7 +33,7 @@ leave-spec =
     let p = c .before .before .before .before in
     let i = p .before .before .before in
     let s = i .before .before .before in
-    leaves-none (s .args .s) _ _ _ (s .args .e) _ _ _ _ _ _ (i .if1 .taken) (p .before .free .result) (p .before .free .ensures) (p .put-entry .ensures) refl (c .giving .ensures))
+    leaves-none (s .args .s) _ _ _ (s .args .e) _ _ _ _ _ _ (i .if1 .taken) free refl (p .put-words .ensures free (p .before .free-words .ensures)) refl (c .giving .ensures))
     (λ c. search needs)
     (λ c.
     let i = c .before .before .before .before in

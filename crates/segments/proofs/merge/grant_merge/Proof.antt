@@ -1,8 +1,9 @@
 -- `segments::merge::grant_merge` meets its contract: sums, numbers and the nonce fit.
 -- Assumes nothing.
+use mathlib.Core.Path.{refl}
 use native.Mathlib.Omega.{arith}
 use borrow.Author.Needs.{needs}
-use Rattle.layout.proofs.EntryLaws.{free-fits}
+use Rattle.layout.specs.Entry.{free}
 use Rattle.machine.proofs.TableLaws.{length-put}
 use Rattle.table.proofs.FitLaws.{at-fits}
 use Rattle.rulings.specs.Rulings.{issuerAs}
@@ -27,12 +28,12 @@ grant-merge-spec =
     (λ c. omega (arith, joins (c .before .before .before .before .before) .nonce))
     (λ c κs. rw (c .before .before .before .entry-at .ensures, c .before .entry-at2 .ensures) (joins (c .before .before .before .before .before) .sum))
     (λ c κs. search needs)
-    (λ c κs. (joins (c .before .before .before .before .before .before .before .before) .second, rw (c .free .ensures) free-fits))
+    (λ c κs. joins (c .before .before .before .before .before .before .before .before) .second)
     (λ c κs.
     let e = c .before .before .before .before .before .before .before .before in
     let d = e .before .before in
     let j = joins (d .before .before) in
-    ((rw (c .before .before .before .put-entry .ensures, length-put) (j .first), j .small), (j .encoded, joining-fits (d .entry-at .result) (e .entry-at2 .result) _ _ (c .before .before .before .before .before .before .joined .ensures) (rw (d .entry-at .ensures) (at-fits _ _)))))
+    ((rw (c .before .before .before .put-words .ensures free (c .before .before .before .before .free-words .ensures), length-put) (j .first), j .small), (j .encoded, joining-fits (d .entry-at .result) (e .entry-at2 .result) _ _ (c .before .before .before .before .before .before .joined .ensures) (rw (d .entry-at .ensures) (at-fits _ _)))))
     (λ c. omega (arith, joins (c .before .before .before .before .before .before .before .before .before .before .before .before .before .before .before .before) .nonce))
     (λ c κs. search needs)
     (λ c. search needs)
@@ -41,4 +42,4 @@ grant-merge-spec =
     let w = i .before .before .before .before .before .before .before in
     let e = w .before .before in
     let n = e .before .before .before .before in
-    merge-grants _ _ _ _ _ _ _ _ _ _ _ _ _ _ _ _ _ (n .before .read .ensures) (n .read2 .ensures) (e .before .before .entry-at .ensures) (e .entry-at2 .ensures) (w .joined .ensures) (i .before .before .before .before .before .free .ensures) (i .before .before .before .before .put-entry .ensures) (i .issue .ensures) (c .giving .ensures)))
+    merge-grants _ _ _ _ _ _ _ _ _ _ _ _ _ _ _ _ _ (n .before .read .ensures) (n .read2 .ensures) (e .before .before .entry-at .ensures) (e .entry-at2 .ensures) (w .joined .ensures) refl (i .before .before .before .before .put-words .ensures free (i .before .before .before .before .before .free-words .ensures)) (i .issue .ensures) (c .giving .ensures)))
