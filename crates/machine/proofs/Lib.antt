@@ -15,5 +15,4 @@ pub mod SliceLaws
 pub mod Sums
 pub mod TableLaws
 pub mod Theorem
-pub mod Uses
 pub mod Written

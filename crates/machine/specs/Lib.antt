@@ -11,4 +11,3 @@ pub mod Searches
 pub mod Session
 pub mod Steps
 pub mod Stops
-pub mod Uses

@@ -14,15 +14,15 @@ use Rattle.layout.specs.Permissions.{within}
 use Rattle.bits.specs.SipHash.{absorb, add64, compress, finish, padded, rotl, siphash, sipRound, word}
 use Rattle.layout.specs.Tag.{tagOf}
 use Rattle.layout.specs.declared.entry.Entry.{Entry}
 use Rattle.machine.specs.Demand3.{above, Accepted, Alike, Closed, Demand3, In, issuedIn, itself, LockedFor, NoReset, Secret}
 use Rattle.machine.specs.Issuing.{passOver, seek}
 use Rattle.machine.specs.Line.{walk}
 use Rattle.machine.specs.Operations.{Name}
 use Rattle.machine.specs.Parts.{at, cleared, put, size}
 use Rattle.machine.specs.Requests.{Call, reading}
 use Rattle.machine.specs.Steps.{Answer, answer, decide, Machine, run, step}
-use Rattle.machine.specs.Uses.{before, changed, derives, First, first, listOf, locks7, Premises, read, reset1, revokes}
+use Rattle.uses.specs.Uses.{before, changed, derives, First, first, listOf, locks7, Premises, read, reset1, revokes}
 use Rattle.machine.proofs.Theorem.{alike-refl, demand3}
 
 -- ---- a token derived before the lock is closed by the revoke
 
