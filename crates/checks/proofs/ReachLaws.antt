@@ -7,9 +7,11 @@ use Prim.Native.Nat.{ℕ, _+_, _*_, _/_, _≤_, _<_}
 use native.Mathlib.Omega.{arith}
 use lib.Dec.{eqb, ltb}
 use lib.ListN.{length}
+use denote.Enum.Declared.{tagOf}
+use types.Run.{miss, OneOf}
 use borrow.Author.Tests.{eqb-false, le-ltb, lt-ltb, ltb-true, not-true}
 use Rattle.layout.specs.Token.{named}
-use Rattle.layout.specs.declared.entry.Entry.{Entry}
+use Rattle.layout.specs.declared.entry.Entry as entry
 use Rattle.layout.specs.declared.token.Named.{Named}
 use Rattle.layout.proofs.TestLaws.{both}
 use Rattle.machine.specs.Line.{dead, ill, isIll, Line, lineOf, owner, whose, isLocked}
@@ -19,67 +21,52 @@ use Rattle.machine.specs.Steps.{pass, stop, Verdict, verdict}
 use Rattle.machine.specs.Stops.{Check, entryNamed, lineAlive, lineFormed, live, lockOpen, reachable}
 use Rattle.machine.proofs.Basics.{range}
 use Rattle.machine.proofs.Fuel.{line-formed}
-use Rattle.checks.specs.Holds.{namedHolds}
-use Rattle.checks.specs.Answers.{liveVerdict, reachVerdict, Reaches, formedVerdict}
+use Rattle.checks.specs.Holds.{isNamed}
+use Rattle.checks.specs.Answers.{formedVerdict, liveVerdict, reachVerdict, Reaches, refusalNumber}
 use Rattle.checks.proofs.VerdictLaws.{andThen, parts-pass, passed, passes, stops, verdict-append}
+use Rattle.checks.specs.declared.answer.Refusal.{Refusal}
+use Rattle.checks.specs.declared.answer.Refusal.the-variants.{Bounds, Dead, Entry, IllFormed, Kind, Lock, Nonces, Numbers, Request, Right, Standing}
 use Rattle.checks.specs.declared.reach.Reached.{Reached}
+use Rattle.checks.proofs.answer.Refusal as refusal
 
 -- ---- place 2
 
-module _ (t : List ℕ) (k : ℕ) (n : Named) (is : n ≡ named k) where
-  pub entry-in : (e : Entry) → e ≡ at t (n .number) → n .number < length t / 32 → (not (eqb (e .kind) 0) && eqb (e .tag) (n .tag)) ≡ namedHolds t k
-  unfolding size namedHolds
-  entry-in e q h = let i : numberOf k < length t / 32 = rw is at h in rw (q, is, lt-ltb (numberOf k) (length t / 32) i)
+module _ (t : List ℕ) (n : Named) where
+  pub entry-in : (e : entry.Entry) → e ≡ at t (n .number) → n .number < length t / 32 → (not (eqb (e .kind) 0) && eqb (e .tag) (n .tag)) ≡ isNamed t n
+  unfolding size isNamed
+  entry-in e q h = rw (q, lt-ltb (n .number) (length t / 32) h)
 
-  pub entry-out : length t / 32 ≤ n .number → false ≡ namedHolds t k
-  unfolding size namedHolds
-  entry-out h = let i : length t / 32 ≤ numberOf k = rw is at h in rw (le-ltb (numberOf k) (length t / 32) i)
+  pub entry-out : length t / 32 ≤ n .number → false ≡ isNamed t n
+  unfolding size isNamed
+  entry-out h = rw (le-ltb (n .number) (length t / 32) h)
 
 -- an entry that is named stands in the table
 pub size-in : (t : List ℕ) (n : ℕ) → ltb n (size t) ≡ true → 32 * n + 32 ≤ length t
 unfolding size
 size-in t n h = let i : n < length t / 32 = ltb-true _ _ h in omega arith
 
-pub named-in : (t : List ℕ) (k : ℕ) → namedHolds t k ≡ true → 32 * numberOf k + 32 ≤ length t
-unfolding namedHolds
-named-in t k h = size-in t (numberOf k) (both _ _ (both _ _ h .0) .0)
+pub named-in : (t : List ℕ) (n : Named) → isNamed t n ≡ true → 32 * n .number + 32 ≤ length t
+unfolding isNamed
+named-in t n h = size-in t (n .number) (both _ _ (both _ _ h .0) .0)
 
 -- ---- places 3 and 4
 
 module _ (m : ℕ) (t : List ℕ) (k : ℕ) where
-  pub formed-named : namedHolds t k ≡ false → formedVerdict m t k ≡ stop 2 0
-  unfolding formedVerdict namedHolds
-  formed-named h = stops 2 (entryNamed t k) (lineFormed m t k ∷ []) tt h
-
-  form : namedHolds t k ≡ true → formedVerdict m t k ≡ verdict (lineFormed m t k ∷ [])
-  unfolding formedVerdict namedHolds
-  form h = passes 2 (entryNamed t k) (lineFormed m t k ∷ []) tt h
-
-  pub formed-ill : (i : ℕ) → namedHolds t k ≡ true → lineOf m t (numberOf k) ≡ ill i → formedVerdict m t k ≡ stop 3 (whose (numberOf k) i)
-  formed-ill i h l = form h ∙ rw l
-
-  pub formed-dead : (d : ℕ) → namedHolds t k ≡ true → lineOf m t (numberOf k) ≡ dead d → (formedVerdict m t k ≡ pass) × (false ≡ isLocked t (lineOf m t (numberOf k)))
-  formed-dead d h l = (form h ∙ rw l, rw l)
-
-  pub formed-owner : (o : ℕ) (e : Entry) → namedHolds t k ≡ true → lineOf m t (numberOf k) ≡ owner o → e ≡ at t o
-      → (formedVerdict m t k ≡ pass) × (e .locked ≡ isLocked t (lineOf m t (numberOf k)))
-  formed-owner o e h l q = (form h ∙ rw l, rw (l, q))
-
-  pub live-named : namedHolds t k ≡ false → liveVerdict m t k ≡ stop 2 0
-  unfolding liveVerdict namedHolds
+  pub live-named : isNamed t (named k) ≡ false → liveVerdict m t k ≡ stop 2 0
+  unfolding liveVerdict isNamed
   live-named h = stops 2 (entryNamed t k) (lineFormed m t k ∷ lineAlive m t k ∷ []) tt h
 
-  rest : namedHolds t k ≡ true → liveVerdict m t k ≡ verdict (lineFormed m t k ∷ lineAlive m t k ∷ [])
-  unfolding liveVerdict namedHolds
+  rest : isNamed t (named k) ≡ true → liveVerdict m t k ≡ verdict (lineFormed m t k ∷ lineAlive m t k ∷ [])
+  unfolding liveVerdict isNamed
   rest h = passes 2 (entryNamed t k) (lineFormed m t k ∷ lineAlive m t k ∷ []) tt h
 
-  pub live-ill : (i : ℕ) → namedHolds t k ≡ true → lineOf m t (numberOf k) ≡ ill i → liveVerdict m t k ≡ stop 3 (whose (numberOf k) i)
+  pub live-ill : (i : ℕ) → isNamed t (named k) ≡ true → lineOf m t (numberOf k) ≡ ill i → liveVerdict m t k ≡ stop 3 (whose (numberOf k) i)
   live-ill i h l = rest h ∙ rw l
 
-  pub live-dead : (d : ℕ) → namedHolds t k ≡ true → lineOf m t (numberOf k) ≡ dead d → liveVerdict m t k ≡ stop 4 (whose (numberOf k) d)
+  pub live-dead : (d : ℕ) → isNamed t (named k) ≡ true → lineOf m t (numberOf k) ≡ dead d → liveVerdict m t k ≡ stop 4 (whose (numberOf k) d)
   live-dead d h l = rest h ∙ rw l
 
-  pub live-owner : (o : ℕ) → namedHolds t k ≡ true → lineOf m t (numberOf k) ≡ owner o → liveVerdict m t k ≡ pass
+  pub live-owner : (o : ℕ) → isNamed t (named k) ≡ true → lineOf m t (numberOf k) ≡ owner o → liveVerdict m t k ≡ pass
   live-owner o h l = rest h ∙ rw l
 
   -- ---- place 5
@@ -89,18 +76,77 @@ module _ (m : ℕ) (t : List ℕ) (k : ℕ) where
     unfolding reachVerdict liveVerdict
     reach-stop r p h = verdict-append (live m t k) (lockOpen m t k u ∷ []) ∙ ap (λ v. andThen v (verdict (lockOpen m t k u ∷ []))) h
 
-    lock : (o : ℕ) (e : Entry) → liveVerdict m t k ≡ pass → lineOf m t (numberOf k) ≡ owner o → e ≡ at t o
+    lock : (o : ℕ) (e : entry.Entry) → liveVerdict m t k ≡ pass → lineOf m t (numberOf k) ≡ owner o → e ≡ at t o
         → reachVerdict m t k u ≡ cond (not (e .locked && not (eqb (e .holder) u))) pass (stop 5 0)
     unfolding reachVerdict liveVerdict
     lock o e h l q = verdict-append (live m t k) (lockOpen m t k u ∷ []) ∙ ap (λ v. andThen v (verdict (lockOpen m t k u ∷ []))) h ∙ rw (l, q)
 
-    pub reach-locked : (o : ℕ) (e : Entry) → liveVerdict m t k ≡ pass → lineOf m t (numberOf k) ≡ owner o → e ≡ at t o
+    pub reach-locked : (o : ℕ) (e : entry.Entry) → liveVerdict m t k ≡ pass → lineOf m t (numberOf k) ≡ owner o → e ≡ at t o
         → (e .locked && not (eqb (e .holder) u)) ≡ true → reachVerdict m t k u ≡ stop 5 0
     reach-locked o e h l q z = lock o e h l q ∙ rw z
 
-    pub reach-open : (o : ℕ) (e : Entry) → liveVerdict m t k ≡ pass → lineOf m t (numberOf k) ≡ owner o → e ≡ at t o
+    pub reach-open : (o : ℕ) (e : entry.Entry) → liveVerdict m t k ≡ pass → lineOf m t (numberOf k) ≡ owner o → e ≡ at t o
         → (e .locked && not (eqb (e .holder) u)) ≡ false → reachVerdict m t k u ≡ pass
     reach-open o e h l q z = lock o e h l q ∙ rw z
+
+-- ---- places 2 and 3 alone: what is known of places 2 to 4 tells them, and a dead line passes
+
+numberIn : Verdict → ℕ
+numberIn pass = 0
+numberIn (stop r p) = r
+
+module _ (m : ℕ) (t : List ℕ) (k : ℕ) where
+  formed-named : isNamed t (named k) ≡ false → formedVerdict m t k ≡ stop 2 0
+  unfolding formedVerdict isNamed
+  formed-named h = stops 2 (entryNamed t k) (lineFormed m t k ∷ []) tt h
+
+  form : isNamed t (named k) ≡ true → formedVerdict m t k ≡ verdict (lineFormed m t k ∷ [])
+  unfolding formedVerdict isNamed
+  form h = passes 2 (entryNamed t k) (lineFormed m t k ∷ []) tt h
+
+  formed-ill : (i : ℕ) → isNamed t (named k) ≡ true → lineOf m t (numberOf k) ≡ ill i → formedVerdict m t k ≡ stop 3 (whose (numberOf k) i)
+  formed-ill i h l = form h ∙ rw l
+
+  pub formed-dead : (p : ℕ) → liveVerdict m t k ≡ stop 4 p → (formedVerdict m t k ≡ pass) × (false ≡ isLocked t (lineOf m t (numberOf k)))
+  unfolding numberIn
+  formed-dead p h = go (isNamed t (named k)) refl (lineOf m t (numberOf k)) refl
+    where
+      other : (v : Verdict) → liveVerdict m t k ≡ v → numberIn v ≡ 4
+      other v e = ap numberIn (sym e ∙ h)
+
+      go : (b : Bool) → isNamed t (named k) ≡ b → (l : Line) → lineOf m t (numberOf k) ≡ l → (formedVerdict m t k ≡ pass) × (false ≡ isLocked t (lineOf m t (numberOf k)))
+      go false q l e = absurd (omega (arith, other _ (live-named m t k q)))
+      go true q (owner o) e = absurd (omega (arith, other _ (live-owner m t k o q e)))
+      go true q (ill i) e = absurd (omega (arith, other _ (live-ill m t k i q e)))
+      go true q (dead d) e = (form q ∙ rw e, rw e)
+
+  pub formed-stop : (r p : ℕ) → (r ≡ 4 → ⊥) → liveVerdict m t k ≡ stop r p → formedVerdict m t k ≡ stop r p
+  unfolding numberIn
+  formed-stop r p n h = go (isNamed t (named k)) refl (lineOf m t (numberOf k)) refl
+    where
+      go : (b : Bool) → isNamed t (named k) ≡ b → (l : Line) → lineOf m t (numberOf k) ≡ l → formedVerdict m t k ≡ stop r p
+      go false q l e = formed-named q ∙ sym (live-named m t k q) ∙ h
+      go true q (owner o) e = let d : pass ≡ stop r p = sym (live-owner m t k o q e) ∙ h in let z : _≡_ {A = ℕ} 0 1 = cc in absurd (omega arith)
+      go true q (ill i) e = formed-ill i q e ∙ sym (live-ill m t k i q e) ∙ h
+      go true q (dead d) e = absurd (n (ap numberIn (sym h ∙ live-dead m t k d q e)))
+
+  pub live-is-formed : liveVerdict m t k ≡ pass → formedVerdict m t k ≡ pass
+  unfolding formedVerdict liveVerdict
+  live-is-formed h = parts-pass (entryNamed t k ++ (lineFormed m t k ∷ [])) (lineAlive m t k ∷ []) h .0
+
+-- a refusal that is none of a dead line, by the place of its variant
+pub not-dead : (why : Refusal) → OneOf (0 ∷ 1 ∷ 2 ∷ 4 ∷ 5 ∷ 6 ∷ 7 ∷ 8 ∷ 9 ∷ 10 ∷ []) (tagOf refusal.the-type why) → refusalNumber why ≡ 4 → ⊥
+not-dead Request h e = omega (arith, e)
+not-dead Entry h e = omega (arith, e)
+not-dead (IllFormed p) h e = omega (arith, e)
+not-dead (Dead p) h e = miss (0 ∷ 1 ∷ 2 ∷ 4 ∷ 5 ∷ 6 ∷ 7 ∷ 8 ∷ 9 ∷ 10 ∷ []) 3 tt h
+not-dead Lock h e = omega (arith, e)
+not-dead Kind h e = omega (arith, e)
+not-dead Right h e = omega (arith, e)
+not-dead Bounds h e = omega (arith, e)
+not-dead Standing h e = omega (arith, e)
+not-dead Numbers h e = omega (arith, e)
+not-dead Nonces h e = omega (arith, e)
 
 -- ---- what a token that passes says
 

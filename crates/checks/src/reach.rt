@@ -1,6 +1,7 @@
 // The entry that a token names, its line and its lock: places 2 to 5.
 use crate::answer::Place;
 use crate::answer::Refusal;
+use layout::token::Named;
 use layout::token::read;
 use table::entries::entry_at;
 use table::line::Line;
@@ -9,7 +10,7 @@ ghost use mathlib.Core.Path.{_≡_};
 ghost use Rattle.machine.specs.Line.{isLocked, lineOf, whose};
 ghost use Rattle.machine.specs.Operations.{numberOf};
 ghost use Rattle.checks.specs.Answers.{formedVerdict, Forms, liveVerdict, placeAs, Reaches, reachVerdict};
-ghost use Rattle.checks.specs.Holds.{namedHolds};
+ghost use Rattle.checks.specs.Holds.{isNamed};
 
 // What the checks of a token come to: where it stops, or the owner of its line.
 pub enum Reached {
@@ -23,11 +24,10 @@ pub enum Formed {
     Locked(bool),
 }
 
-// Place 2: the token's number is in the table, its entry is not free and has the token's tag.
-pub fn entry_named(table: &[u8], k: u64) -> bool
-    ensures { λ r. ⌜ r ≡ namedHolds (now (table .entry)) k ⌝ }
+// Place 2: the number is in the table, its entry is not free and has the tag.
+fn entry_named(table: &[u8], n: Named) -> bool
+    ensures { λ r. ⌜ r ≡ isNamed (now (table .entry)) n ⌝ }
 {
-    let n = read(k);
     if n.number < (table.len() / 32) as u64 {
         let e = entry_at(table, n.number as usize);
         (e.kind != 0) & ((e.tag as u64) == n.tag)
@@ -47,40 +47,37 @@ pub fn place(n: usize, k: usize) -> Place
     }
 }
 
-// Places 2 and 3. A dead line counts as unlocked.
-pub fn reach_formed(table: &[u8], memory: u64, k: u64) -> Formed
-    ensures { λ r. ⌜ Forms r (formedVerdict memory (now (table .entry)) k) (isLocked (now (table .entry)) (lineOf memory (now (table .entry)) (numberOf k))) ⌝ }
-{
-    if !entry_named(table, k) {
-        return Formed::Stop(Refusal::Entry);
-    }
-    let named = read(k);
-    let n = named.number as usize;
-    let l = walk(table, memory, n);
-    match l {
-        Line::Owner(o) => {
-            let e = entry_at(table, o);
-            Formed::Locked(e.locked)
-        }
-        Line::Dead(_) => Formed::Locked(false),
-        Line::Ill(i) => Formed::Stop(Refusal::IllFormed(place(n, i))),
-    }
-}
-
 // Places 2 to 4.
 pub fn reach_live(table: &[u8], memory: u64, k: u64) -> Reached
     ensures { λ r. ⌜ Reaches (now (table .entry)) r (liveVerdict memory (now (table .entry)) k) (lineOf memory (now (table .entry)) (numberOf k)) ⌝ }
 {
-    if !entry_named(table, k) {
+    let named = read(k);
+    if !entry_named(table, named) {
         return Reached::Stop(Refusal::Entry);
     }
-    let named = read(k);
     let n = named.number as usize;
     let l = walk(table, memory, n);
     match l {
         Line::Owner(o) => Reached::Owner(o),
         Line::Dead(d) => Reached::Stop(Refusal::Dead(place(n, d))),
         Line::Ill(i) => Reached::Stop(Refusal::IllFormed(place(n, i))),
+    }
+}
+
+// Places 2 and 3. A dead line counts as unlocked.
+pub fn reach_formed(table: &[u8], memory: u64, k: u64) -> Formed
+    ensures { λ r. ⌜ Forms r (formedVerdict memory (now (table .entry)) k) (isLocked (now (table .entry)) (lineOf memory (now (table .entry)) (numberOf k))) ⌝ }
+{
+    let r = reach_live(table, memory, k);
+    match r {
+        Reached::Stop(why) => match why {
+            Refusal::Dead(_) => Formed::Locked(false),
+            _ => Formed::Stop(why),
+        },
+        Reached::Owner(o) => {
+            let e = entry_at(table, o);
+            Formed::Locked(e.locked)
+        }
     }
 }
 

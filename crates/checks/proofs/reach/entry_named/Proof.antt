@@ -1,4 +1,4 @@
--- `checks::reach::entry_named` meets its contract: the token is read, and beyond the table nothing is named.
+-- `checks::reach::entry_named` meets its contract: beyond the table nothing is named.
 -- Assumes nothing.
 use borrow.Author.Needs.{needs}
 use Rattle.checks.proofs.ReachLaws.{entry-in, entry-out}
@@ -10,7 +10,6 @@ entry-named-spec =
     tie.close
     (tie.spec
     (λ c κs. search needs)
-    (λ c κs. search needs)
     (λ c. search needs)
-    (λ c. let e = c .before .before .before in entry-in _ _ _ (e .before .before .before .read .ensures) (e .entry-at .result) (e .entry-at .ensures) (e .before .if1 .taken))
-    (λ c. entry-out _ _ _ (c .before .before .read .ensures) (c .if1 .left)))
+    (λ c. let e = c .before .before .before in entry-in _ _ (e .entry-at .result) (e .entry-at .ensures) (e .before .if1 .taken))
+    (λ c. entry-out _ _ (c .if1 .left)))
