@@ -2,20 +2,57 @@
 use crate::entries::words_at;
 use layout::entry::kind_of;
 ghost use mathlib.Core.Path.{_≡_};
-ghost use mathlib.Core.Bool.{cond};
-ghost use Prim.Native.Nat.{_+_, _-_, _/_, _≤_, _<_};
-ghost use lib.Dec.{ltb};
+ghost use Prim.Native.Nat.{_+_, _*_, _-_, _/_, _≤_, _<_};
+ghost use lib.Dec.{eqb};
 ghost use lib.ListN.{length};
 ghost use Rattle.machine.specs.Issuing.{seek};
-ghost use Rattle.machine.specs.Parts.{size};
+ghost use Rattle.machine.specs.Parts.{at, size};
+ghost use Rattle.table.specs.Searches.{firstFree, fourTaken};
 
-// The number after k, going round from the table's end to 1.
-fn after(count: usize, k: usize) -> usize
-    requires { ⌜ (k < count) × (2 ≤ count) ⌝ }
-    ensures { λ r. ⌜ r ≡ cond (ltb (k + 1) count) (k + 1) 1 ⌝ }
-    ensures { λ r. ⌜ r < count ⌝ }
+// The entry of number n is free.
+fn is_free(table: &[u8], n: usize) -> bool
+    requires { ⌜ 32 * n + 32 ≤ length (now table) ⌝ }
+    ensures { λ r. ⌜ r ≡ eqb (at (now (table .entry)) n .kind) 0 ⌝ }
 {
-    if k + 1 < count { k + 1 } else { 1 }
+    kind_of(words_at(table, n)) == 0
+}
+
+// Four numbers from n on are all taken. It looks at each of them, without a branch.
+fn four_taken(table: &[u8], n: usize) -> bool
+    requires { ⌜ 32 * n + 128 ≤ length (now table) ⌝ }
+    ensures { λ r. ⌜ r ≡ fourTaken (now (table .entry)) n ⌝ }
+{
+    !is_free(table, n) & !is_free(table, n + 1) & !is_free(table, n + 2) & !is_free(table, n + 3)
+}
+
+// Passes over taken numbers from the start on, four by four.
+fn skip(table: &[u8], start: usize, end: usize) -> usize
+    requires { ⌜ (start ≤ end) × (32 * end ≤ length (now table)) ⌝ }
+    ensures { λ r. ⌜ (r ≤ end) × (firstFree (end - r) (now (table .entry)) r ≡ firstFree (end - start) (now (table .entry)) start) ⌝ }
+{
+    let mut n = start;
+    while 4 <= end - n {
+        if !four_taken(table, n) {
+            return n;
+        }
+        n += 4;
+    }
+    n
+}
+
+// The first free number from the start on and before the end, or 0 if there is none.
+fn free_in(table: &[u8], start: usize, end: usize) -> usize
+    requires { ⌜ (start ≤ end) × (32 * end ≤ length (now table)) ⌝ }
+    ensures { λ r. ⌜ r ≡ firstFree (end - start) (now (table .entry)) start ⌝ }
+{
+    let mut n = skip(table, start, end);
+    while n < end {
+        if is_free(table, n) {
+            return n;
+        }
+        n += 1;
+    }
+    0
 }
 
 // The first free number after the last one given, or 0 if there is none.
@@ -23,15 +60,10 @@ pub fn new_number(table: &[u8], last: usize) -> usize
     requires { ⌜ (64 ≤ length (now table)) × (last < length (now table) / 32) ⌝ }
     ensures { λ r. ⌜ r ≡ seek (size (now (table .entry)) - 1) (now (table .entry)) last ⌝ }
 {
-    let count = table.len() / 32;
-    let mut k = last;
-    let mut tries = count - 1;
-    while 0 < tries {
-        k = after(count, k);
-        if kind_of(words_at(table, k)) == 0 {
-            return k;
-        }
-        tries -= 1;
+    let later = free_in(table, last + 1, table.len() / 32);
+    if later == 0 {
+        free_in(table, 1, last + 1)
+    } else {
+        later
     }
-    0
 }
