@@ -6,6 +6,7 @@ use mathlib.Core.List.{List, _∷_, _++_}
 use Prim.Native.Nat.{ℕ, _+_, _^_, _≤_}
 use lib.Dec.{leb, ltb}
 use lib.ListN.{length}
+use borrow.Author.Tests.{leb-true}
 use Rattle.layout.specs.Permissions.{within}
 use Rattle.layout.specs.Token.{named}
 use Rattle.layout.specs.declared.entry.Entry.{Entry}
@@ -73,11 +74,13 @@ module _ (m : ℕ) (s : parts.State) (t : List ℕ) (w : Way) (k u : ℕ) (b : L
     unfolding verdictOn settingsHold reachVerdict transferVerdict
     access-rest h = token-passes first (reachable m t k u) last tt ok h
 
-  -- what a pass says: the transfer lies in memory
+  -- what a pass says: the transfer lies in memory, and has at most 4,096 bytes
   module _ (h : verdictOn m s t (access w k u) b ≡ pass) where
-    pub access-room : startOf t k + length b ≤ m
+    pub access-room : (startOf t k + length b ≤ m) × (length b ≤ 4096)
     unfolding verdictOn
-    access-room = access-inside m s t w k u b (passed (checks m s t (access w k u) b) h)
+    access-room =
+        let all = passed (checks m s t (access w k u) b) h in
+        (access-inside m s t w k u b all, leb-true (length b) 4096 (search (all)))
 
     pub access-effect : effectOn m s t (access w k u) b ≡ transfer w (startOf t k) b
     unfolding grantedEffect

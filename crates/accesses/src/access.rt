@@ -102,7 +102,7 @@ fn check_access(
 
 // The bytes of memory from the start on fill the buffer.
 fn load(memory: &[u8], start: usize, buffer: &mut [u8])
-    requires { ⌜ start + length (now buffer) ≤ length (now memory) ⌝ }
+    requires { ⌜ (start + length (now buffer) ≤ length (now memory)) × (length (now buffer) ≤ 4096) ⌝ }
     ensures { λ _. ⌜ now (buffer .exit) ≡ take (length (now (buffer .entry))) (drop start (now (memory .entry))) ⌝ }
 {
     let end = start + buffer.len();
@@ -111,7 +111,7 @@ fn load(memory: &[u8], start: usize, buffer: &mut [u8])
 
 // The buffer is stored in memory from the start on.
 fn store(memory: &mut [u8], start: usize, buffer: &[u8])
-    requires { ⌜ start + length (now buffer) ≤ length (now memory) ⌝ }
+    requires { ⌜ (start + length (now buffer) ≤ length (now memory)) × (length (now buffer) ≤ 4096) ⌝ }
     ensures { λ _. ⌜ now (memory .exit) ≡ sets (now (memory .entry)) start (now (buffer .entry)) ⌝ }
 {
     let end = start + buffer.len();

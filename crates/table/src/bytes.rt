@@ -1,6 +1,6 @@
 // Parts of memory: cleared, and copied.
 ghost use mathlib.Core.Path.{_≡_};
-ghost use Prim.Native.Nat.{_+_, _≤_, _<_};
+ghost use Prim.Native.Nat.{_+_, _≤_};
 ghost use lib.ListN.{length, replicate};
 ghost use lib.Seq.{sets};
 
@@ -38,7 +38,7 @@ fn copy_bytes(to: &mut [u8], from: &[u8])
 
 // The same for at most 4,096 bytes, by way of an array, which overlaps neither part: so the compiler makes one memmove of
 // both loops, and drops the array.
-fn copy_piece(to: &mut [u8], from: &[u8])
+pub fn copy(to: &mut [u8], from: &[u8])
     requires { ⌜ (length (now to) ≡ length (now from)) × (length (now from) ≤ 4096) ⌝ }
     ensures { λ _. ⌜ now (to .exit) ≡ now (from .entry) ⌝ }
 {
@@ -46,30 +46,4 @@ fn copy_piece(to: &mut [u8], from: &[u8])
     let mut between = [0; 4096];
     copy_bytes(&mut between[..count], from);
     copy_bytes(to, &between[..count]);
-}
-
-// Where the piece that begins at start ends: after 4,096 bytes, or at the end of all.
-fn piece_end(start: usize, end: usize) -> usize
-    requires { ⌜ start < end ⌝ }
-    ensures { λ r. ⌜ (start < r) × ((r ≤ end) × (r ≤ start + 4096)) ⌝ }
-{
-    if end - start <= 4096 {
-        end
-    } else {
-        start + 4096
-    }
-}
-
-// The bytes of one part, to another of the same length.
-pub fn copy(to: &mut [u8], from: &[u8])
-    requires { ⌜ length (now to) ≡ length (now from) ⌝ }
-    ensures { λ _. ⌜ now (to .exit) ≡ now (from .entry) ⌝ }
-{
-    let count = from.len();
-    let mut i = 0;
-    while i < count {
-        let next = piece_end(i, count);
-        copy_piece(&mut to[i..next], &from[i..next]);
-        i = next;
-    }
 }

@@ -17,4 +17,4 @@ store-spec =
     (λ c. search needs)
     (λ c.
     let a = c .before .before .before .before .before .before in
-    part-sets _ _ _ _ (c .before .before .copy .ensures) (a .pre)))
+    part-sets _ _ _ _ (c .before .before .copy .ensures) (a .pre .0)))
