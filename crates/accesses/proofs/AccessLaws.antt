@@ -7,10 +7,10 @@ use Prim.Native.Nat.{ℕ, _+_, _^_, _≤_}
 use lib.Dec.{leb, ltb}
 use lib.ListN.{length}
 use borrow.Author.Tests.{leb-true}
-use Rattle.layout.specs.Permissions.{within}
-use Rattle.layout.specs.Token.{named}
+use Rattle.tokens.specs.Permissions.{within}
+use Rattle.tokens.specs.Token.{named}
 use Rattle.layout.specs.declared.entry.Entry.{Entry}
-use Rattle.layout.specs.declared.token.Named.{Named}
+use Rattle.tokens.specs.declared.token.Named.{Named}
 use Rattle.checks.specs.Answers.{reachVerdict}
 use Rattle.checks.specs.Holds.{settingsHold}
 use Rattle.checks.proofs.VerdictLaws.{first-stops, passed, token-passes, token-stops}

@@ -5,7 +5,7 @@ use mathlib.Core.List.{List, [], _∷_}
 use Prim.Native.Nat.{ℕ, _+_}
 use lib.Dec.{leb}
 use lib.ListN.{length}
-use Rattle.layout.specs.Token.{named}
+use Rattle.tokens.specs.Token.{named}
 use Rattle.checks.specs.Answers.{stopAs}
 use Rattle.machine.specs.Operations.{load, namedEntry, transfer}
 use Rattle.machine.specs.Requests as request

@@ -10,10 +10,10 @@ use lib.ListN.{length}
 use denote.Enum.Declared.{tagOf}
 use types.Run.{miss, OneOf}
 use borrow.Author.Tests.{eqb-false, le-ltb, lt-ltb, ltb-true, not-true}
-use Rattle.layout.specs.Token.{named}
+use Rattle.tokens.specs.Token.{named}
 use Rattle.layout.specs.declared.entry.Entry as entry
-use Rattle.layout.specs.declared.token.Named.{Named}
-use Rattle.layout.proofs.TestLaws.{both}
+use Rattle.tokens.specs.declared.token.Named.{Named}
+use Rattle.bits.proofs.TestLaws.{both}
 use Rattle.machine.specs.Line.{dead, ill, isIll, Line, lineOf, owner, whose, isLocked}
 use Rattle.machine.specs.Operations.{numberOf}
 use Rattle.machine.specs.Parts.{at, size}

@@ -4,7 +4,7 @@ use mathlib.Core.Bool.{Bool, true, not, _&&_}
 use mathlib.Core.List.{List, [], _∷_}
 use Prim.Native.Nat.{ℕ}
 use lib.Dec.{eqb, ltb}
-use Rattle.layout.specs.declared.token.Named.{Named}
+use Rattle.tokens.specs.declared.token.Named.{Named}
 use Rattle.machine.specs.Parts.{at, size, State}
 use Rattle.machine.specs.Stops.{Check, settings, sizes}
 

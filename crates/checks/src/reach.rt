@@ -1,11 +1,11 @@
 // The entry that a token names, its line and its lock: places 2 to 5.
 use crate::answer::Place;
 use crate::answer::Refusal;
-use layout::token::Named;
-use layout::token::read;
 use table::entries::entry_at;
 use table::line::Line;
 use table::line::walk;
+use tokens::token::Named;
+use tokens::token::read;
 ghost use mathlib.Core.Path.{_≡_};
 ghost use Rattle.machine.specs.Line.{isLocked, lineOf, whose};
 ghost use Rattle.machine.specs.Operations.{numberOf};

@@ -16,7 +16,7 @@ use Rattle.layout.specs.Entry.{direct, free, indirect, wordWidths, wordL
 use Rattle.layout.specs.declared.entry.Words.{Words}
 use Rattle.layout.specs.declared.entry.Entry.{Entry}
 use Rattle.bits.proofs.FieldLaws.{pack-lt, unpack-pack, pack-unpack, unpack-fit, regroup-pack, regroup-unpack, cut, groups}
-use Rattle.layout.proofs.TestLaws.{both}
+use Rattle.bits.proofs.TestLaws.{both}
 
 -- a field that runs over a word's end: its high part is the low i bits of x, its low part the j bits of y above the lowest k
 pub span-lt : (i j k x y : ℕ) → y < 2 ^ (j + k) → x % 2 ^ i * 2 ^ j + y / 2 ^ k < 2 ^ (i + j)

@@ -6,8 +6,8 @@ use mathlib.Core.List.{List, [], _∷_, map}
 use Prim.Native.Nat.{ℕ}
 use lib.ListN.{replicate, set}
 use Rattle.layout.specs.Entry.{direct, entryBytes}
-use Rattle.layout.specs.Token.{token}
-use Rattle.layout.specs.declared.token.Named.{Named}
+use Rattle.tokens.specs.Token.{token}
+use Rattle.tokens.specs.declared.token.Named.{Named}
 
 pub record Row : Type 0 where
   pub given : List ℕ

@@ -5,7 +5,7 @@ use mathlib.Core.Bool.{Bool, true, false, not, _&&_, _||_}
 use mathlib.Core.List.{List, [], _∷_}
 use Prim.Native.Nat.{ℕ, zero, suc, _+_}
 use lib.Dec.{eqb, ltb}
-use Rattle.layout.specs.Token.{encodingOf}
+use Rattle.tokens.specs.Token.{encodingOf}
 use Rattle.layout.specs.declared.entry.Entry.{Entry}
 
 -- 01's cases, for a memory of m bytes

@@ -1,6 +1,6 @@
 // Which entries are ill-formed in a memory of so many bytes.
 use crate::entry::Entry;
-use crate::token::encoding;
+use tokens::token::encoding;
 ghost use mathlib.Core.Bool.{false};
 ghost use mathlib.Core.Path.{_≡_};
 ghost use Rattle.layout.specs.Form.{faultsOf, illFormed, orSome};

@@ -1,6 +1,4 @@
-// The layouts of the machine's words (bytes of numbers, tokens, table entries) and SipHash.
+// Entries of the table (Table 2): their layout, their form and their tags.
 pub mod entry;
 pub mod form;
-pub mod permissions;
 pub mod tag;
-pub mod token;

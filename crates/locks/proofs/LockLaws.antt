@@ -6,9 +6,9 @@ use mathlib.Core.List.{List, [], _∷_, _++_}
 use Prim.Native.Nat.{ℕ, _^_, _<_}
 use lib.Dec.{eqb, ltb}
 use borrow.Author.Tests.{ltb-true}
-use Rattle.layout.specs.Token.{named}
+use Rattle.tokens.specs.Token.{named}
 use Rattle.layout.specs.declared.entry.Entry.{Entry}
-use Rattle.layout.specs.declared.token.Named.{Named}
+use Rattle.tokens.specs.declared.token.Named.{Named}
 use Rattle.checks.specs.Answers.{reachVerdict}
 use Rattle.checks.specs.Holds.{settingsHold}
 use Rattle.checks.proofs.VerdictLaws.{more-fails, more-passes, more-stops, parts-pass, passed, passes, stops}

@@ -15,7 +15,7 @@ use Rattle.layout.specs.Form.{endPastMemory, faultsOf, illFormed, lengthZero, o
 use Rattle.layout.specs.declared.entry.Entry.{Entry}
 use Rattle.layout.proofs.EntryLaws.{Laid, one, two}
 use Rattle.layout.proofs.FormLaws.{ill-as, laid}
-use Rattle.layout.proofs.TestLaws.{both}
+use Rattle.bits.proofs.TestLaws.{both}
 use Rattle.machine.specs.Demand3.{above, itself, Owns}
 use Rattle.machine.specs.Line.{links, parentNumber, parentTag}
 use Rattle.machine.specs.Parts.{at, put, size}

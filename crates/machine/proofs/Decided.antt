@@ -9,7 +9,7 @@ use native.Mathlib.Omega.{arith}
 use lib.Dec.{eqb, leb}
 use lib.ListN.{length}
 use borrow.Author.Tests.{eqb-false, leb-true, not-true}
-use Rattle.layout.proofs.TestLaws.{both}
+use Rattle.bits.proofs.TestLaws.{both}
 use Rattle.machine.specs.Demand3.{Accepted}
 use Rattle.machine.specs.Line.{badPlace, dead, ill, isDead, isIll, Line, lineOf, owner, whose}
 use Rattle.machine.specs.Operations.{Decision, grant, numberOf}

@@ -13,8 +13,8 @@ use lib.ListN.{length, length-replicate}
 use borrow.Author.Tests.{eqb-false, eqb-true, leb-true, ltb-false, ltb-true, ne-eqb, not-true}
 use Rattle.layout.specs.Entry.{direct, directFields, directWidths, free}
 use Rattle.bits.specs.Fields.{Fit}
-use Rattle.layout.specs.Permissions.{X}
-use Rattle.layout.specs.Token.{named}
+use Rattle.tokens.specs.Permissions.{X}
+use Rattle.tokens.specs.Token.{named}
 use Rattle.layout.specs.declared.entry.Entry.{Entry}
 use Rattle.machine.specs.Demand3.{above, In, IsReset, itself, Owns, Revokes}
 use Rattle.machine.specs.FromReset.{Has, Inside, owned}

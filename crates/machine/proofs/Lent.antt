@@ -11,7 +11,7 @@ use lib.ListN.{drop, length, length-drop, length-take}
 use borrow.Author.Tests.{leb-true}
 use Rattle.layout.specs.Entry.{free}
 use Rattle.layout.specs.Form.{illFormed}
-use Rattle.layout.specs.Token.{named}
+use Rattle.tokens.specs.Token.{named}
 use Rattle.layout.specs.declared.entry.Entry.{Entry}
 use Rattle.machine.specs.Lent.{AllBytes, AsLong, LentBytes}
 use Rattle.machine.specs.Line.{isLocked, linked, lineOf, parentNumber}

@@ -10,7 +10,7 @@ use native.Mathlib.Decide.{decLe, decLt, ℕ-discrete}
 use lib.ListN.{drop, getD, length, replicate, take}
 use lib.Seq.{ext-getD}
 use borrow.Author.Tests.{eqb-true, ltb-true}
-use Rattle.layout.specs.Token.{named}
+use Rattle.tokens.specs.Token.{named}
 use Rattle.layout.specs.declared.entry.Entry.{Entry}
 use Rattle.machine.specs.Demand3.{above, Accepted, Alike, Closed, Demand3, In, IsReset, issuedIn, itself, LockedFor, NoneCarries, NoReset, Owns, resetCall, Revokes, Under, Unrevoked}
 use Rattle.machine.specs.Line.{lineOf, ownerOf, parentNumber}

@@ -14,12 +14,12 @@ use Rattle.layout.specs.Entry.{bit, direct, directFields, directWidths, free, i
 use Rattle.bits.specs.Fields.{Fit}
 use Rattle.layout.specs.Form.{endPastMemory, faultsOf, holderWithoutLock, illFormed, lengthZero, lockedWithoutHolder, orSome}
 use Rattle.layout.specs.Tag.{tagOf}
-use Rattle.layout.specs.Token.{namedAs, NamedFits, tokenFields, tokenWidths}
+use Rattle.tokens.specs.Token.{namedAs, NamedFits, tokenFields, tokenWidths}
 use Rattle.layout.specs.declared.entry.Entry.{Entry}
-use Rattle.layout.specs.declared.token.Named.{Named}
+use Rattle.tokens.specs.declared.token.Named.{Named}
 use Rattle.bits.proofs.FieldLaws.{pack-lt}
 use Rattle.layout.proofs.FormLaws.{ill-as}
-use Rattle.layout.proofs.TokenLaws.{encoding-of, named-of}
+use Rattle.tokens.proofs.TokenLaws.{encoding-of, named-of}
 use Rattle.machine.specs.Issuing.{issue}
 use Rattle.machine.specs.Operations.{recount, relock, tokenOf}
 use Rattle.machine.specs.Parts.{mostMemory, spent, State}

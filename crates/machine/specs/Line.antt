@@ -5,7 +5,7 @@ use mathlib.Core.List.{List}
 use Prim.Native.Nat.{ℕ, zero, suc}
 use lib.Dec.{eqb, ltb}
 use Rattle.layout.specs.Form.{illFormed}
-use Rattle.layout.specs.Token.{namedAs}
+use Rattle.tokens.specs.Token.{namedAs}
 use Rattle.layout.specs.declared.entry.Entry.{Entry}
 use Rattle.machine.specs.Parts.{at}
 

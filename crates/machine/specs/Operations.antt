@@ -8,8 +8,8 @@ use lib.Bits.{bitAnd}
 use lib.Dec.{eqb, leb}
 use lib.ListN.{length, replicate}
 use Rattle.layout.specs.Entry.{direct, free, indirect}
-use Rattle.layout.specs.Permissions.{X}
-use Rattle.layout.specs.Token.{named, token}
+use Rattle.tokens.specs.Permissions.{X}
+use Rattle.tokens.specs.Token.{named, token}
 use Rattle.layout.specs.declared.entry.Entry.{Entry}
 use Rattle.machine.specs.Issuing.{issue, newNumber, passOver}
 use Rattle.machine.specs.Line.{isLocked, lineOf, linked, ownerOf, parentNumber}

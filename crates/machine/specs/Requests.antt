@@ -2,7 +2,7 @@
 -- Assumes nothing.
 use mathlib.Core.List.{List}
 use Prim.Native.Nat.{ℕ}
-use Rattle.layout.specs.Permissions.{R, W, X}
+use Rattle.tokens.specs.Permissions.{R, W, X}
 
 pub data Way : Type 0 where
   reading : Way

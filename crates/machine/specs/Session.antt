@@ -5,8 +5,8 @@ use mathlib.Core.List.{List, [], _∷_, _++_}
 use Prim.Native.Nat.{ℕ}
 use lib.ListN.{getD, replicate}
 use Rattle.layout.specs.Examples.{packedExamples, Row}
-use Rattle.layout.specs.Permissions.{R}
-use Rattle.layout.specs.Token.{token}
+use Rattle.tokens.specs.Permissions.{R}
+use Rattle.tokens.specs.Token.{token}
 use Rattle.machine.specs.Operations.{Decision}
 use Rattle.machine.specs.Parts.{State}
 use Rattle.machine.specs.Requests.{access, Call, create, derive, lock, reading, Request, reset}

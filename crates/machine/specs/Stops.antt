@@ -6,8 +6,8 @@ use mathlib.Core.List.{List, [], _∷_, _++_}
 use Prim.Native.Nat.{ℕ, _+_, _%_, _^_}
 use lib.Dec.{eqb, leb, ltb}
 use lib.ListN.{length}
-use Rattle.layout.specs.Permissions.{within, X}
-use Rattle.layout.specs.Token.{named}
+use Rattle.tokens.specs.Permissions.{within, X}
+use Rattle.tokens.specs.Token.{named}
 use Rattle.machine.specs.Issuing.{newNumber}
 use Rattle.machine.specs.Line.{badPlace, isDead, isIll, isLocked, lineOf, lockedFrom, ownerOf}
 use Rattle.machine.specs.Operations.{namedEntry, numberOf, revokeNonce}

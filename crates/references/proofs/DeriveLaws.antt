@@ -8,10 +8,10 @@ use native.Mathlib.Omega.{arith}
 use native.Mathlib.Decide.{decLt}
 use lib.Dec.{eqb, leb, ltb}
 use borrow.Author.Tests.{le-ltb, leb-true, lt-ltb, ltb-true, not-false, not-true}
-use Rattle.layout.specs.Permissions.{within}
-use Rattle.layout.specs.Token.{named}
+use Rattle.tokens.specs.Permissions.{within}
+use Rattle.tokens.specs.Token.{named}
 use Rattle.layout.specs.declared.entry.Entry.{Entry}
-use Rattle.layout.specs.declared.token.Named.{Named}
+use Rattle.tokens.specs.declared.token.Named.{Named}
 use Rattle.checks.specs.Answers.{liveVerdict}
 use Rattle.checks.specs.Holds.{settingsHold}
 use Rattle.checks.proofs.VerdictLaws.{all-passed, first-stops, Passed, token-passes, token-stops}

@@ -11,10 +11,10 @@ use lib.Dec.{eqb, leb}
 use lib.ListN.{length}
 use borrow.Author.Tests.{le-leb, lt-leb, ne-eqb}
 use Rattle.layout.specs.Entry.{free}
-use Rattle.layout.specs.Token.{named}
+use Rattle.tokens.specs.Token.{named}
 use Rattle.layout.specs.declared.entry.Entry.{Entry}
-use Rattle.layout.specs.declared.token.Named.{Named}
-use Rattle.layout.proofs.TestLaws.{both}
+use Rattle.tokens.specs.declared.token.Named.{Named}
+use Rattle.bits.proofs.TestLaws.{both}
 use Rattle.checks.specs.Answers.{formedVerdict}
 use Rattle.checks.specs.Holds.{settingsHold}
 use Rattle.checks.proofs.ReachLaws.{formed-in}

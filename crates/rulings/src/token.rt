@@ -1,9 +1,9 @@
 // The tokens that operations give.
-use layout::token::Named;
-use layout::token::packed;
+use tokens::token::Named;
+use tokens::token::packed;
 ghost use mathlib.Core.Path.{_≡_};
 ghost use Prim.Native.Nat.{_≤_, _<_};
-ghost use Rattle.layout.specs.Token.{token};
+ghost use Rattle.tokens.specs.Token.{token};
 
 // The token of number n and a tag in the wanted encoding, offset zero.
 pub fn token_of(encoding: u64, n: usize, tag: u16) -> u64

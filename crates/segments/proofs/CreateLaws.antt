@@ -9,10 +9,10 @@ use lib.Dec.{eqb, leb, ltb}
 use lib.ListN.{length}
 use borrow.Author.Tests.{eq-eqb, le-leb, leb-true, lt-leb, lt-ltb, ltb-true, ne-eqb, not-false, not-true}
 use Rattle.layout.specs.Entry.{direct, free}
-use Rattle.layout.specs.Permissions.{within}
-use Rattle.layout.specs.Token.{named}
+use Rattle.tokens.specs.Permissions.{within}
+use Rattle.tokens.specs.Token.{named}
 use Rattle.layout.specs.declared.entry.Entry.{Entry}
-use Rattle.layout.specs.declared.token.Named.{Named}
+use Rattle.tokens.specs.declared.token.Named.{Named}
 use Rattle.checks.specs.Answers.{reachVerdict}
 use Rattle.checks.specs.Holds.{allHold, settingsHold}
 use Rattle.checks.proofs.VerdictLaws.{all-passed, first-stops, Passed, token-passes, token-stops}

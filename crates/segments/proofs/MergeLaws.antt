@@ -10,9 +10,9 @@ use lib.Dec.{eqb, leb, ltb}
 use lib.ListN.{length}
 use borrow.Author.Tests.{eq-eqb, le-leb, leb-true, lt-leb, ltb-true, ne-eqb}
 use Rattle.layout.specs.Entry.{Fits, free}
-use Rattle.layout.specs.Token.{named}
+use Rattle.tokens.specs.Token.{named}
 use Rattle.layout.specs.declared.entry.Entry.{Entry}
-use Rattle.layout.specs.declared.token.Named.{Named}
+use Rattle.tokens.specs.declared.token.Named.{Named}
 use Rattle.layout.proofs.EntryLaws.{direct-fits}
 use Rattle.checks.specs.Answers.{reachVerdict}
 use Rattle.checks.specs.Holds.{settingsHold}

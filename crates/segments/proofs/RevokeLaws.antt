@@ -11,9 +11,9 @@ use lib.Seq.{sets}
 use borrow.Author.Tests.{eq-eqb, le-ltb, leb-true, lt-ltb, ltb-true, ne-eqb}
 use Rattle.layout.specs.Entry.{direct}
 use Rattle.layout.specs.Tag.{tagOf}
-use Rattle.layout.specs.Token.{named, token}
+use Rattle.tokens.specs.Token.{named, token}
 use Rattle.layout.specs.declared.entry.Entry.{Entry}
-use Rattle.layout.specs.declared.token.Named.{Named}
+use Rattle.tokens.specs.declared.token.Named.{Named}
 use Rattle.checks.specs.Answers.{liveVerdict}
 use Rattle.checks.specs.Holds.{settingsHold}
 use Rattle.checks.proofs.ReachLaws.{reached-inside}

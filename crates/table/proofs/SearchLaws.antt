@@ -13,7 +13,7 @@ use Rattle.layout.specs.Tag.{tagOf}
 use Rattle.layout.specs.declared.entry.Entry.{Entry}
 use Rattle.machine.specs.Issuing.{after, issue, passOver, seek}
 use Rattle.machine.specs.Parts.{at, size, spent, State}
-use Rattle.layout.proofs.TestLaws.{both}
+use Rattle.bits.proofs.TestLaws.{both}
 use Rattle.table.specs.Keys.{keyed}
 use Rattle.table.specs.Searches.{firstFree, fourTaken, taken}
 

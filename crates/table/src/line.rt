@@ -2,7 +2,7 @@
 use crate::entries::entry_at;
 use layout::entry::Entry;
 use layout::form::ill_formed;
-use layout::token::Encoding1;
+use tokens::token::Encoding1;
 ghost use mathlib.Core.Path.{_≡_};
 ghost use Prim.Native.Nat.{_+_, _*_, _≤_};
 ghost use lib.ListN.{length};

@@ -4,10 +4,10 @@ use bits::word::get;
 use bits::word::swapped;
 use layout::entry::direct;
 use layout::entry::write;
-use layout::token::Named;
-use layout::token::Packing;
-use layout::token::pack;
 use libc::STDOUT_FILENO;
+use tokens::token::Named;
+use tokens::token::Packing;
+use tokens::token::pack;
 
 fn end_line() {
     io::write_all(STDOUT_FILENO, b"\n");

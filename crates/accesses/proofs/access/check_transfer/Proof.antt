@@ -6,7 +6,7 @@ use Prim.Native.Nat.{_+_, _≤_}
 use native.Mathlib.Omega.{arith}
 use borrow.Author.Needs.{needs}
 use borrow.Author.Tests.{leb-true, not-false, not-true}
-use Rattle.layout.specs.Permissions.{within}
+use Rattle.tokens.specs.Permissions.{within}
 use Rattle.machine.specs.Requests.{rightOf}
 use Rattle.accesses.specs.Ways.{wayAs}
 use Rattle.accesses.proofs.AccessLaws.{transfer-in, transfer-out, transfer-right}

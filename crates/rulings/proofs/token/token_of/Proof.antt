@@ -3,7 +3,7 @@
 use Prim.Native.Nat.{ℕ, zero, suc, _≤_, _<_}
 use native.Mathlib.Omega.{arith}
 use borrow.Author.Needs.{needs}
-use Rattle.layout.specs.Token.{NamedFits}
+use Rattle.tokens.specs.Token.{NamedFits}
 use Rattle.rulings.proofs.token.token_of.Statement.{statement}
 use Rattle.rulings.proofs.token.token_of.Tie as tie
 

@@ -1,12 +1,12 @@
--- `layout::permissions::within` meets its contract: the table is its rule, at all 64 places.
+-- `tokens::permissions::within` meets its contract: the table is its rule, at all 64 places.
 -- Assumes nothing.
 use mathlib.Core.Bool.{Bool, true, false}
 use mathlib.Core.List.{List, [], _∷_}
 use borrow.Author.Needs.{needs}
-use Rattle.layout.specs.Permissions.{within}
-use Rattle.layout.proofs.PermissionLaws.{rule}
-use Rattle.layout.proofs.permissions.within.Statement.{statement}
-use Rattle.layout.proofs.permissions.within.Tie as tie
+use Rattle.tokens.specs.Permissions.{within}
+use Rattle.tokens.proofs.PermissionLaws.{rule}
+use Rattle.tokens.proofs.permissions.within.Statement.{statement}
+use Rattle.tokens.proofs.permissions.within.Tie as tie
 
 abbrev y : Bool
 y = true

@@ -1,10 +1,10 @@
--- `layout::token::fits` meets its contract: each arm's encoding is its key.
+-- `tokens::token::fits` meets its contract: each arm's encoding is its key.
 -- Assumes nothing.
 use native.Mathlib.Omega.{arith}
 use borrow.Author.Needs.{needs}
 use borrow.Author.Tests.{le-ltb}
-use Rattle.layout.proofs.token.fits.Statement.{statement}
-use Rattle.layout.proofs.token.fits.Tie as tie
+use Rattle.tokens.proofs.token.fits.Statement.{statement}
+use Rattle.tokens.proofs.token.fits.Tie as tie
 
 pub fits-spec : {M : Type 1} → statement M
 fits-spec =

@@ -1,12 +1,12 @@
--- `layout::token::pack` meets its contract: what it packs fits.
+-- `tokens::token::pack` meets its contract: what it packs fits.
 -- Assumes nothing.
 use mathlib.Core.Path.{sym, _∙_, ap}
 use borrow.Author.Needs.{needs}
-use Rattle.layout.specs.Token.{packing}
-use Rattle.layout.specs.declared.token.Packing.the-variants.{Token}
-use Rattle.layout.proofs.TokenLaws.{fits-holds}
-use Rattle.layout.proofs.token.pack.Statement.{statement}
-use Rattle.layout.proofs.token.pack.Tie as tie
+use Rattle.tokens.specs.Token.{packing}
+use Rattle.tokens.specs.declared.token.Packing.the-variants.{Token}
+use Rattle.tokens.proofs.TokenLaws.{fits-holds}
+use Rattle.tokens.proofs.token.pack.Statement.{statement}
+use Rattle.tokens.proofs.token.pack.Tie as tie
 
 pub pack-spec : {M : Type 1} → statement M
 unfolding packing

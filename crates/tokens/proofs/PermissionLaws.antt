@@ -9,7 +9,7 @@ use native.Mathlib.Omega.{arith}
 use lib.Dec.{T, eqb}
 use lib.ListN.{getD}
 use borrow.Author.Tests.{eqb-true, eqb-false}
-use Rattle.layout.specs.Permissions.{within}
+use Rattle.tokens.specs.Permissions.{within}
 
 -- the test f holds at every number below n
 abbrev pub every : ℕ → (ℕ → Bool) → Bool

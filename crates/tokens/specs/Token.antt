@@ -6,9 +6,9 @@ use Prim.Native.Nat.{ℕ, _+_, _^_, _/_, _%_}
 use lib.Dec.{ltb}
 use lib.ListN.{getD}
 use Rattle.bits.specs.Fields.{pack, Fit}
-use Rattle.layout.specs.declared.token.Named.{Named}
-use Rattle.layout.specs.declared.token.Packing.{Packing}
-use Rattle.layout.specs.declared.token.Packing.the-variants.{Token, TooWide}
+use Rattle.tokens.specs.declared.token.Named.{Named}
+use Rattle.tokens.specs.declared.token.Packing.{Packing}
+use Rattle.tokens.specs.declared.token.Packing.the-variants.{Token, TooWide}
 
 -- "The number and offset widths belong to the encoding itself: 0 has 14 and 32, 1 has 46 and 0, 2 has 30 and 16, 3 has 22 and 24."
 abbrev pub numberWidth : ℕ → ℕ

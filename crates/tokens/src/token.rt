@@ -2,7 +2,7 @@
 // offset. Each encoding is a type, to which the widths of its number and its offset belong.
 ghost use mathlib.Core.Path.{_≡_};
 ghost use Prim.Native.Nat.{_<_};
-ghost use Rattle.layout.specs.Token.{encodingOf, fitsAs, named, namedAs, NamedFits, packing, token};
+ghost use Rattle.tokens.specs.Token.{encodingOf, fitsAs, named, namedAs, NamedFits, packing, token};
 
 // What a token names: an entry, by its tag and number, and an offset.
 pub struct Named {

@@ -1,14 +1,14 @@
--- `layout::token::read` meets its contract: each arm's encoding is its key.
+-- `tokens::token::read` meets its contract: each arm's encoding is its key.
 -- Assumes nothing.
 use mathlib.Core.Path.{_≡_, sym, _∙_, ap}
 use Prim.Native.Nat.{ℕ, _<_}
 use native.Mathlib.Omega.{arith}
 use borrow.Author.Needs.{needs}
-use Rattle.layout.specs.Token.{named, namedAs, encodingOf}
-use Rattle.layout.specs.declared.token.Named.{Named}
-use Rattle.layout.proofs.TokenLaws.{fourth}
-use Rattle.layout.proofs.token.read.Statement.{statement}
-use Rattle.layout.proofs.token.read.Tie as tie
+use Rattle.tokens.specs.Token.{named, namedAs, encodingOf}
+use Rattle.tokens.specs.declared.token.Named.{Named}
+use Rattle.tokens.proofs.TokenLaws.{fourth}
+use Rattle.tokens.proofs.token.read.Statement.{statement}
+use Rattle.tokens.proofs.token.read.Tie as tie
 
 -- what is read in the encoding k, where that is the token's
 in-encoding : (t k : ℕ) {r : Named} {e : ℕ} → r ≡ namedAs k t → e ≡ k → e ≡ encodingOf t → r ≡ named t

@@ -1,6 +1,6 @@
 // Permissions: one number, R 4, W 2, X 1, added.
 ghost use mathlib.Core.Path.{_≡_};
-ghost use Rattle.layout.specs.Permissions.{within};
+ghost use Rattle.tokens.specs.Permissions.{within};
 
 // Which permissions lie within which: a row for those wanted, a column for those held.
 const WITHIN: [[bool; 8]; 8] = [

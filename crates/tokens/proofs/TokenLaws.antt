@@ -10,10 +10,10 @@ use lib.ListN.{getD}
 use lib.Pow.{pow-pos}
 use borrow.Author.Tests.{ltb-true}
 use Rattle.bits.specs.Fields.{bits, pack, unpack, Fit}
-use Rattle.layout.specs.Token.{numberWidth, offsetWidth, tokenWidths, tokenFields, tokenIn, namedIn, NamedFits, token, named, namedAs, encodingOf, fitsAs}
-use Rattle.layout.specs.declared.token.Named.{Named}
+use Rattle.tokens.specs.Token.{numberWidth, offsetWidth, tokenWidths, tokenFields, tokenIn, namedIn, NamedFits, token, named, namedAs, encodingOf, fitsAs}
+use Rattle.tokens.specs.declared.token.Named.{Named}
 use Rattle.bits.proofs.FieldLaws.{unpack-pack, pack-unpack}
-use Rattle.layout.proofs.TestLaws.{both}
+use Rattle.bits.proofs.TestLaws.{both}
 
 -- the fields of a word are its top bits and what `namedIn` reads
 unpack-named : (w o t : ℕ) → unpack (tokenWidths w o) t ≡ tokenFields (t / 2 ^ (16 + (w + o)) % 4) (namedIn w o t)

@@ -1,9 +1,9 @@
--- `layout::token::packed` meets its contract: each arm's encoding is its key.
+-- `tokens::token::packed` meets its contract: each arm's encoding is its key.
 -- Assumes nothing.
 use mathlib.Core.Path.{_≡_}
-use Rattle.layout.proofs.TokenLaws.{fourth}
-use Rattle.layout.proofs.token.packed.Statement.{statement}
-use Rattle.layout.proofs.token.packed.Tie as tie
+use Rattle.tokens.proofs.TokenLaws.{fourth}
+use Rattle.tokens.proofs.token.packed.Statement.{statement}
+use Rattle.tokens.proofs.token.packed.Tie as tie
 
 last : (c : tie.At-match-rest) → c .before .args .e ≡ 3
 last c = let r = c .match .rest in fourth _ (c .before .pre .0) (r .0 .0 .1) (r .0 .1) (r .1)
