@@ -1,9 +1,9 @@
 // The northbridge for C and Rust: one function over six lent slices.
-pub mod answer;
-pub mod call;
-pub mod request;
-pub mod state;
-pub mod words;
+mod answer;
+mod call;
+mod request;
+mod state;
+mod words;
 
 use crate::call::asked_of;
 use crate::call::carry_out;

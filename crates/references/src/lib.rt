@@ -1,5 +1,5 @@
 // Operations on references to a segment: derive, execute-only, clone, drop.
-pub mod child;
+mod child;
 pub mod clone;
 pub mod derive;
 pub mod drop;
