@@ -1,6 +1,6 @@
 -- Merge: the ways out of its checks, and what they leave.
 -- Assumes nothing.
-use mathlib.Core.Path.{_≡_, _∙_, ap}
+use mathlib.Core.Path.{_≡_, refl, _∙_, ap, subst}
 use mathlib.Core.Bool.{Bool, true, false, not, _&&_}
 use mathlib.Core.List.{List, [], _∷_, _++_}
 use Prim.Native.Nat.{ℕ, _+_, _*_, _/_, _^_, _≤_, _<_}
@@ -23,9 +23,10 @@ use Rattle.machine.specs.Operations.{namedEntry, numberOf, tokenOf}
 use Rattle.machine.specs.Parts as parts
 use Rattle.machine.specs.Parts.{at, mostMemory, put, size, spent}
 use Rattle.machine.specs.Requests.{merge}
-use Rattle.machine.specs.Steps.{pass, stop, verdict}
+use Rattle.machine.specs.Steps.{pass, stop, Verdict, verdict}
 use Rattle.machine.specs.Stops.{Check, checks, encodingFits, noOffset, reachable, settings, taskFits}
-use Rattle.segments.specs.Neighbours.{bothVerdict, bounds, joining, kinds, neighbourChecks, neighbourVerdict, nonces, standings}
+use Rattle.segments.specs.Neighbours.{bothVerdict, bounds, Joining, joining, kinds, merging, neighbourChecks, neighbourVerdict, nonces, Pairs, standings}
+use Rattle.segments.specs.declared.merge.Pair.{Pair}
 use Rattle.rulings.specs.Rulings.{giving, granting, handed, issuerAs, verdictOn}
 use Rattle.rulings.specs.declared.answer.Outcome.{Outcome}
 use Rattle.rulings.specs.declared.issuer.Issuer.{Issuer}
@@ -111,17 +112,19 @@ module _ (m : ℕ) (s : parts.State) (t : List ℕ) (j k u c : ℕ) where
       unfolding verdictOn settingsHold bothVerdict neighbourVerdict
       merge-reached d e d-is e-is h = token-passes first tokens last tt (rw (isFirst, isSecond) at ok) h ∙ rw (d-is, e-is, isFirst, isSecond)
 
+      -- the numbers are those that the tokens name
+      pub merge-pairs : (r : Pair) → bothVerdict m t j k u ≡ pass → Pairs r (neighbourVerdict (at t (a .number)) (at t (b .number)) (s .next)) (a .number) (b .number)
+          → Pairs r (verdictOn m s t (merge j k u c) []) (numberOf j) (numberOf k)
+      merge-pairs r h p =
+          let is = merge-reached (at t (a .number)) (at t (b .number)) refl refl h in
+          let v : Verdict = neighbourVerdict (at t (a .number)) (at t (b .number)) (s .next) in
+          let one : Pairs r v (numberOf j) (b .number) = subst (λ (x : Named). Pairs r v (x .number) (b .number)) isFirst p in
+          let both : Pairs r v (numberOf j) (numberOf k) = subst (λ (x : Named). Pairs r v (numberOf j) (x .number)) isSecond one in
+          rw is both
+
 -- ---- what a pass says, where the entries have the numbers n and p
 
-pub record Joins (s : parts.State) (t : List ℕ) (n p c : ℕ) : Type 0 where
-  pub first : 32 * n + 32 ≤ length t
-  pub second : 32 * p + 32 ≤ length t
-  pub small : n < 1024
-  pub encoded : c ≤ 3
-  pub sum : at t n .length + at t p .length < 2 ^ 32
-  pub nonce : s .next < spent
-
-joins : (m : ℕ) (s : parts.State) (t : List ℕ) (j k u c : ℕ) → Passed (checks m s t (merge j k u c) []) → Joins s t (numberOf j) (numberOf k) c
+joins : (m : ℕ) (s : parts.State) (t : List ℕ) (j k u c : ℕ) → Passed (checks m s t (merge j k u c) []) → Joining s t (numberOf j) (numberOf k) c
 unfolding size
 joins m s t j k u c all =
     let i : numberOf j < length t / 32 = ltb-true _ _ (search) in
@@ -137,22 +140,25 @@ joins m s t j k u c all =
       nonce = omega arith;
     }
 
-pub merge-joins : (m : ℕ) (s : parts.State) (t : List ℕ) (j k u c : ℕ) (a b : Named) → a ≡ named j → b ≡ named k → verdictOn m s t (merge j k u c) [] ≡ pass → Joins s t (a .number) (b .number) c
-merge-joins m s t j k u c a b isFirst isSecond h = rw (isFirst, isSecond) (joins m s t j k u c (passed-on m s t (merge j k u c) [] h))
+pub merge-joins : (m : ℕ) (s : parts.State) (t : List ℕ) (j k u c n p : ℕ) → n ≡ numberOf j → p ≡ numberOf k → verdictOn m s t (merge j k u c) [] ≡ pass → Joining s t n p c
+merge-joins m s t j k u c n p isFirst isSecond h = rw (isFirst, isSecond) (joins m s t j k u c (passed-on m s t (merge j k u c) [] h))
 
 pub joining-fits : (d e w : Entry) (ν : ℕ) → w ≡ joining d e ν → Fits d → Fits w
 joining-fits d e w ν is f =
     let less : bitAnd (d .permissions) (e .permissions) ≤ d .permissions = and-le-l (d .permissions) (e .permissions) in
     rw is (direct-fits _ _ _ _ _ _ _ (omega (arith, f .permissions)))
 
--- ---- what is handed back, where the tokens are read as a and b, and their entries as d and e
+-- ---- what is handed back, where the entries of numbers n and p are d and e
 
-pub merge-grants : (m : ℕ) (s : Issuer) (t : List ℕ) (j k u c : ℕ) (a b : Named) (d e whole gone : Entry) (token : ℕ) (t₁ t₂ : List ℕ) (r : Outcome)
-    → a ≡ named j → b ≡ named k → d ≡ at t (a .number) → e ≡ at t (b .number)
-    → whole ≡ joining d e (s .next) → gone ≡ free → t₁ ≡ put t (b .number) gone
-    → (token ≡ tokenOf c (a .number) (issue (issuerAs s) (a .number) whole)) × (t₂ ≡ put t₁ (a .number) (issue (issuerAs s) (a .number) whole))
+pub merges : (s : Issuer) (t : List ℕ) (n p c : ℕ) (d e whole gone : Entry) (token : ℕ) (t₁ t₂ : List ℕ) (r : Outcome)
+    → d ≡ at t n → e ≡ at t p → whole ≡ joining d e (s .next) → gone ≡ free → t₁ ≡ put t p gone
+    → (token ≡ tokenOf c n (issue (issuerAs s) n whole)) × (t₂ ≡ put t₁ n (issue (issuerAs s) n whole))
     → r ≡ giving (record { key0 = s .key0; key1 = s .key1; last = s .last; next = s .next + 1 }) token 0
-    → handed r t₂ ≡ granting m (issuerAs s) t (merge j k u c) []
-unfolding granting
-merge-grants m s t j k u c a b d e whole gone token t₁ t₂ r isFirst isSecond d-is e-is over none cut given done =
-    rw (done, given .0, given .1, cut, none, over, d-is, e-is, isFirst, isSecond)
+    → handed r t₂ ≡ merging (issuerAs s) t n p c
+unfolding merging
+merges s t n p c d e whole gone token t₁ t₂ r d-is e-is over none cut given done =
+    rw (done, given .0, given .1, cut, none, over, d-is, e-is)
+
+pub merge-grants : (m : ℕ) (s : parts.State) (t : List ℕ) (j k u c n p : ℕ) → n ≡ numberOf j → p ≡ numberOf k → merging s t n p c ≡ granting m s t (merge j k u c) []
+unfolding merging granting
+merge-grants m s t j k u c n p isFirst isSecond = rw (isFirst, isSecond)

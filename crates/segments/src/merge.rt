@@ -17,12 +17,19 @@ use table::entries::put_words;
 use tokens::token::read;
 ghost use mathlib.Core.Path.{_≡_};
 ghost use mathlib.Core.List.{[]};
-ghost use Prim.Native.Nat.{_+_, _<_, _^_};
+ghost use Prim.Native.Nat.{_+_, _*_, _≤_, _<_, _^_};
 ghost use lib.ListN.{length};
+ghost use Rattle.machine.specs.Operations.{numberOf};
+ghost use Rattle.machine.specs.Parts.{at};
 ghost use Rattle.machine.specs.Requests as request;
-ghost use Rattle.machine.specs.Steps.{pass};
-ghost use Rattle.segments.specs.Neighbours.{bothVerdict, joining, neighbourVerdict};
-ghost use Rattle.rulings.specs.Rulings.{checkedAs, decided, granting, handed, issuerAs, verdictOn};
+ghost use Rattle.segments.specs.Neighbours.{bothVerdict, Joining, joining, merging, neighbourVerdict, Pairs};
+ghost use Rattle.rulings.specs.Rulings.{checkedAs, decided, handed, issuerAs, verdictOn};
+
+// What the checks of a merge come to: where it stops, or the numbers of both entries.
+pub enum Pair {
+    Stop(Refusal),
+    Numbers(usize, usize),
+}
 
 // Places 2 to 5 for one token, then for the other.
 fn reach_both(table: &[u8], memory: u64, first: u64, second: u64, task: u64) -> Checked
@@ -62,6 +69,18 @@ fn neighbours(d: Entry, e: Entry, next: u64) -> Checked
     }
 }
 
+// The same for the entries of numbers n and k.
+fn check_pair(table: &[u8], n: usize, k: usize, next: u64) -> Pair
+    requires { ⌜ (32 * n + 32 ≤ length (now table)) × (32 * k + 32 ≤ length (now table)) ⌝ }
+    ensures { λ r. ⌜ Pairs r (neighbourVerdict (at (now (table .entry)) n) (at (now (table .entry)) k) next) n k ⌝ }
+{
+    let r = neighbours(entry_at(table, n), entry_at(table, k), next);
+    match r {
+        Checked::Stop(why) => Pair::Stop(why),
+        Checked::Pass => Pair::Numbers(n, k),
+    }
+}
+
 // A direct entry over both, with the first's user and Lockable and the permissions both have.
 fn joined(d: Entry, e: Entry, nonce: u32) -> Entry
     requires { ⌜ d .length + e .length < 2 ^ 32 ⌝ }
@@ -80,8 +99,8 @@ fn check_merge(
     second: u64,
     task: u64,
     encoding: u64,
-) -> Checked
-    ensures { λ r. ⌜ checkedAs r ≡ verdictOn memory (issuerAs s) (now (table .entry)) (request.merge first second task encoding) [] ⌝ }
+) -> Pair
+    ensures { λ r. ⌜ Pairs r (verdictOn memory (issuerAs s) (now (table .entry)) (request.merge first second task encoding) []) (numberOf first) (numberOf second) ⌝ }
 {
     let a = read(first);
     let b = read(second);
@@ -93,35 +112,19 @@ fn check_merge(
     {
         let r = reach_both(table, memory, first, second, task);
         match r {
-            Checked::Stop(why) => Checked::Stop(why),
-            Checked::Pass => {
-                let d = entry_at(table, a.number as usize);
-                let e = entry_at(table, b.number as usize);
-                neighbours(d, e, s.next)
-            }
+            Checked::Stop(why) => Pair::Stop(why),
+            Checked::Pass => check_pair(table, a.number as usize, b.number as usize, s.next),
         }
     } else {
-        Checked::Stop(Refusal::Request)
+        Pair::Stop(Refusal::Request)
     }
 }
 
 // The second is freed, and the first issued anew over both.
-fn grant_merge(
-    mut s: Issuer,
-    table: &mut [u8],
-    memory: u64,
-    first: u64,
-    second: u64,
-    task: u64,
-    encoding: u64,
-) -> Outcome
-    requires { ⌜ verdictOn memory (issuerAs s) (now table) (request.merge first second task encoding) [] ≡ pass ⌝ }
-    ensures { λ r. ⌜ handed r (now (table .exit)) ≡ granting memory (issuerAs s) (now (table .entry)) (request.merge first second task encoding) [] ⌝ }
+fn grant_merge(mut s: Issuer, table: &mut [u8], n: usize, k: usize, encoding: u64) -> Outcome
+    requires { ⌜ Joining (issuerAs s) (now table) n k encoding ⌝ }
+    ensures { λ r. ⌜ handed r (now (table .exit)) ≡ merging (issuerAs s) (now (table .entry)) n k encoding ⌝ }
 {
-    let a = read(first);
-    let b = read(second);
-    let n = a.number as usize;
-    let k = b.number as usize;
     let d = entry_at(table, n);
     let e = entry_at(table, k);
     let whole = joined(d, e, s.next as u32);
@@ -146,7 +149,7 @@ pub fn merge(
     let bytes = memory.len() as u64;
     let r = check_merge(s, table, bytes, first, second, task, encoding);
     match r {
-        Checked::Stop(why) => refused(s, why),
-        Checked::Pass => grant_merge(s, table, bytes, first, second, task, encoding),
+        Pair::Stop(why) => refused(s, why),
+        Pair::Numbers(n, k) => grant_merge(s, table, n, k, encoding),
     }
 }

@@ -6,7 +6,7 @@ use borrow.Author.Needs.{needs}
 use Rattle.segments.specs.Neighbours.{bothVerdict}
 use Rattle.rulings.specs.Rulings.{checkedAs, issuerAs}
 use Rattle.rulings.specs.declared.answer.Checked.{Checked}
-use Rattle.segments.proofs.MergeLaws.{both-in, merge-reached, merge-request, merge-token, mergeHolds}
+use Rattle.segments.proofs.MergeLaws.{both-in, merge-pairs, merge-request, merge-token, mergeHolds}
 use Rattle.segments.proofs.merge.check_merge.Statement.{statement}
 use Rattle.segments.proofs.merge.check_merge.Tie as tie
 
@@ -32,12 +32,18 @@ check-merge-spec =
     (λ c κs. search needs)
     (λ c. search needs)
     (λ c. search needs)
-    (λ c κs. let r = c .before .before in rw (r .before .before .before .before .before .before .read .ensures) (both-in _ _ _ _ _ (tokens r _ (c .enum-told .given .1)) .0))
-    (λ c κs. let r = c .before .before .before in rw (r .before .before .before .before .before .read2 .ensures) (both-in _ _ _ _ _ (tokens r _ (c .before .enum-told .given .1)) .1))
-    (λ c κs. search needs)
-    (λ c. let r = c .before .before .before in sym (merge-token _ _ _ _ _ _ _ _ _ (r .before .before .before .before .before .before .read .ensures) (r .before .before .before .before .before .read2 .ensures) (first (r .before)) _ _ (tokens r _ (c .before .r .given .1))))
+    (λ c κs.
+    let r = c .before .before in
+    let n = r .before .before .before .before .before in
+    rw (n .before .read .ensures, n .read2 .ensures) (both-in _ _ _ _ _ (tokens r _ (c .enum-told .given .1))))
     (λ c.
-    let e = c .before in
-    let r = e .before .before .before .before in
-    c .neighbours .ensures ∙ sym (merge-reached _ _ _ _ _ _ _ _ _ (r .before .before .before .before .before .before .read .ensures) (r .before .before .before .before .before .read2 .ensures) (first (r .before)) _ _ (e .before .entry-at .ensures) (e .entry-at2 .ensures) (tokens r _ (e .before .before .enum-told .given .1))))
-    (λ c. sym (merge-request _ _ _ _ _ _ _ _ _ (c .before .before .before .before .before .read .ensures) (c .before .before .before .before .read2 .ensures) (rw (c .before .before .before .settings .ensures) at (c .if1 .left)))))
+    let r = c .before .before .before in
+    let n = r .before .before .before .before .before in
+    merge-token _ _ _ _ _ _ _ _ _ (n .before .read .ensures) (n .read2 .ensures) (first (r .before)) _ _ (tokens r _ (c .before .r .given .1)))
+    (λ c.
+    let r = c .before .before .before in
+    let n = r .before .before .before .before .before in
+    merge-pairs _ _ _ _ _ _ _ _ _ (n .before .read .ensures) (n .read2 .ensures) (first (r .before)) (c .check-pair .result) (tokens r _ (c .before .enum-told .given .1)) (c .check-pair .ensures))
+    (λ c.
+    let n = c .before .before .before .before in
+    merge-request _ _ _ _ _ _ _ _ _ (n .before .read .ensures) (n .read2 .ensures) (rw (c .before .before .before .settings .ensures) at (c .if1 .left))))
