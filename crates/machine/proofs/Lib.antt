@@ -8,6 +8,7 @@ pub mod Examples
 pub mod Fates
 pub mod FromReset
 pub mod Fuel
+pub mod Given
 pub mod Lent
 pub mod Refused
 pub mod Runs

@@ -1,5 +1,6 @@
 pub mod Demand3
 pub mod FromReset
+pub mod Given
 pub mod Issuing
 pub mod Lent
 pub mod Line

@@ -3,7 +3,7 @@
 use mathlib.Core.Path.{_≡_, refl, sym, _∙_, ap}
 use mathlib.Core.Bool.{true}
 use mathlib.Core.List.{List}
-use Prim.Native.Nat.{ℕ, zero, suc, _+_, _/_, _%_, _^_, _<_}
+use Prim.Native.Nat.{ℕ, zero, suc, _+_, _/_, _%_, _^_, _≤_, _<_}
 use native.Mathlib.Nat.{add-zero, div-one, mod-eq-of-lt, mod-lt}
 use native.Mathlib.Omega.{arith}
 use lib.ListN.{getD}
@@ -79,3 +79,11 @@ fits-holds e n h =
 -- the fourth of four encodings
 pub fourth : (e : ℕ) → e < 4 → (e ≡ 0 → ⊥) → (e ≡ 1 → ⊥) → (e ≡ 2 → ⊥) → e ≡ 3
 fourth e h a b c = omega arith
+
+-- a number below 1,024 and a tag fit every encoding
+pub small-fits : (e n g : ℕ) → e ≤ 3 → n < 1024 → g < 65536 → NamedFits e (record { tag = g; number = n; offset = 0 })
+small-fits zero n g a b c = omega arith
+small-fits (suc zero) n g a b c = omega arith
+small-fits (suc (suc zero)) n g a b c = omega arith
+small-fits (suc (suc (suc zero))) n g a b c = omega arith
+small-fits (suc (suc (suc (suc e)))) n g a b c = absurd (omega arith)

@@ -1,0 +1,105 @@
+-- A request gives the tokens that its answer carries, and no other: every grant, one by one.
+-- Assumes nothing.
+use mathlib.Core.Path.{_≡_, refl, sym, ap, _∙_}
+use mathlib.Core.Logic.{_≢_, _⊎_, inl, inr}
+use mathlib.Core.List.{List, [], _∷_, List·Memᴰ, List·Memᴰ·cases-cons, List·Memᴰ·head, List·Memᴰ·not-nil, List·Memᴰ·tail}
+use Prim.Native.Nat.{ℕ, _≤_, _<_}
+use native.Mathlib.Nat.{mod-lt}
+use native.Mathlib.Omega.{arith}
+use lib.Dec.{eqb}
+use lib.ListN.{length}
+use lib.Pow.{pow-pos}
+use borrow.Author.Tests.{leb-true, ltb-true}
+use Rattle.layout.specs.Tag.{tagOf}
+use Rattle.layout.specs.declared.entry.Entry.{Entry}
+use Rattle.tokens.specs.declared.token.Named.{Named}
+use Rattle.tokens.proofs.TokenLaws.{read-packed, small-fits}
+use Rattle.machine.specs.Given.{Given, Gives, nameIn}
+use Rattle.machine.specs.Issuing.{issue, newNumber}
+use Rattle.machine.specs.Operations.{Decision, grant, Name, nameOf, numberOf, tokenOf}
+use Rattle.machine.specs.Parts.{at, mostEntries, size, State}
+use Rattle.machine.specs.Requests.{access, clone, create, derive, executeOnly, lock, merge, release, Request, reset, revoke, unlock}
+use Rattle.machine.specs.Stops.{checks}
+use Rattle.machine.proofs.Basics.{neqb-true}
+use Rattle.machine.proofs.Choices.{by-cond}
+use Rattle.machine.proofs.Decided.{decided, Passed}
+use Rattle.machine.proofs.Fuel.{number-first}
+
+-- ---- none, one or two tokens
+
+none : Gives [] 0 0
+none = record { carried = λ k m. absurd (List·Memᴰ·not-nil m); first = λ h. absurd (h refl); second = λ h. absurd (h refl) }
+
+one : (k : Name) (a : ℕ) → nameIn a ≡ k → Gives (k ∷ []) a 0
+one k a e =
+    record {
+      carried = λ j m. inl (only j (List·Memᴰ·cases-cons m) ∙ sym e);
+      first = λ h. List·Memᴰ·head e;
+      second = λ h. absurd (h refl);
+    }
+  where
+    only : (j : Name) → (j ≡ k) ⊎ List·Memᴰ j [] → j ≡ k
+    only j (inl q) = q
+    only j (inr m) = absurd (List·Memᴰ·not-nil m)
+
+two : (k l : Name) (a b : ℕ) → nameIn a ≡ k → nameIn b ≡ l → Gives (k ∷ l ∷ []) a b
+two k l a b e f =
+    record {
+      carried = λ j m. either j (List·Memᴰ·cases-cons m);
+      first = λ h. List·Memᴰ·head e;
+      second = λ h. List·Memᴰ·tail (List·Memᴰ·head f);
+    }
+  where
+    either : (j : Name) → (j ≡ k) ⊎ List·Memᴰ j (l ∷ []) → (j ≡ nameIn a) ⊎ (j ≡ nameIn b)
+    either j (inl q) = inl (q ∙ sym e)
+    either j (inr m) = go (List·Memᴰ·cases-cons m)
+      where
+        go : (j ≡ l) ⊎ List·Memᴰ j [] → (j ≡ nameIn a) ⊎ (j ≡ nameIn b)
+        go (inl q) = inr (q ∙ sym f)
+        go (inr n) = absurd (List·Memᴰ·not-nil n)
+
+-- the token of what is issued under number n names it
+names : (s : State) (c n : ℕ) (e : Entry) → c ≤ 3 → n < 1024 → nameIn (tokenOf c n (issue s n e)) ≡ nameOf n (issue s n e)
+unfolding tagOf
+names s c n e a b =
+    let fit = small-fits c n (issue s n e .tag) a b (mod-lt _ (pow-pos 16)) in
+    ap (λ (x : Named). record { number = x .number; tag = x .tag }) (read-packed c _ (omega arith) fit)
+
+-- ---- every granted request
+
+module _ (m : ℕ) (s : State) (t : List ℕ) where
+  abbrev Given-by : Decision → Type 0
+  Given-by d = Gives (d .issued) (d .reply .first) (d .reply .second)
+
+  -- a number of the table, and a new one, are small
+  small : (n : ℕ) → n < size t → size t ≤ mostEntries → n < 1024
+  small n h g = omega arith
+
+  new-small : newNumber s t ≢ 0 → size t ≤ mostEntries → newNumber s t < 1024
+  new-small h g = small (newNumber s t) (number-first s t h .inside) g
+
+  granted-gives : (q : Request) (b : List ℕ) → Passed (checks m s t q b) → Given-by (grant m s t q b)
+  granted-gives (reset k0 k1 ν) b h = one (record { number = 0; tag = 0 }) 0 refl
+  granted-gives (access w k u) b h = none
+  granted-gives (create k u l x p c) b h =
+      let most : size t ≤ mostEntries = leb-true _ _ (search) in
+      let old = small (numberOf k) (ltb-true _ _ (search)) most in
+      let new = new-small (neqb-true (newNumber s t) 0 (search)) most in
+      let encoded : c ≤ 3 = leb-true c 3 (search) in
+      by-cond Given-by (eqb l (at t (numberOf k) .length))
+      (λ e. one _ _ (names s c (newNumber s t) _ encoded new))
+      (λ e. two _ _ _ _ (names s c (newNumber s t) _ encoded new) (names s c (numberOf k) _ encoded old))
+  granted-gives (merge j k u c) b h = one _ _ (names s c (numberOf j) _ (leb-true c 3 (search)) (small (numberOf j) (ltb-true _ _ (search)) (leb-true _ _ (search))))
+  granted-gives (derive k o l p c) b h = one _ _ (names s c (newNumber s t) _ (leb-true c 3 (search)) (new-small (neqb-true (newNumber s t) 0 (search)) (leb-true _ _ (search))))
+  granted-gives (executeOnly k c) b h = one _ _ (names s c (newNumber s t) _ (leb-true c 3 (search)) (new-small (neqb-true (newNumber s t) 0 (search)) (leb-true _ _ (search))))
+  granted-gives (clone k) b h = none
+  granted-gives (release k) b h = none
+  granted-gives (lock k u) b h = none
+  granted-gives (unlock k u) b h = none
+  granted-gives (revoke k c) b h = one _ _ (names s c (numberOf k) _ (leb-true c 3 (search)) (small (numberOf k) (ltb-true _ _ (search)) (leb-true _ _ (search))))
+
+pub given : Given
+unfolding Given
+given σ q =
+    let m = length (σ .memory) in
+    decided (Given-by m (σ .state) (σ .table)) m (σ .state) (σ .table) (q .request) (q .buffer) (granted-gives m (σ .state) (σ .table) (q .request) (q .buffer)) (λ r p told. none)
