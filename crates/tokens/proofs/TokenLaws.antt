@@ -1,18 +1,18 @@
 -- The round trips of tokens, at any widths, and so in each encoding: cited from the laws of fields.
 -- Assumes nothing.
-use mathlib.Core.Path.{_≡_, refl, sym, _∙_, ap}
+use mathlib.Core.Path.{_≡_, refl, sym, _∙_, ap, ap₂}
 use mathlib.Core.Bool.{true}
-use mathlib.Core.List.{List}
-use Prim.Native.Nat.{ℕ, zero, suc, _+_, _/_, _%_, _^_, _≤_, _<_}
-use native.Mathlib.Nat.{add-zero, div-one, mod-eq-of-lt, mod-lt}
+use mathlib.Core.List.{List, [], _∷_, _++_}
+use Prim.Native.Nat.{ℕ, zero, suc, _+_, _*_, _/_, _%_, _^_, _≤_, _<_}
+use native.Mathlib.Nat.{add-zero, div-one, lt-of-lt-of-le, mod-eq-of-lt, mod-lt, one-mul}
 use native.Mathlib.Omega.{arith}
-use lib.ListN.{getD}
-use lib.Pow.{pow-pos}
+use lib.ListN.{getD, length}
+use lib.Pow.{pow-mono, pow-pos, shl-exact}
 use borrow.Author.Tests.{ltb-true}
 use Rattle.bits.specs.Fields.{bits, pack, unpack, Fit}
 use Rattle.tokens.specs.Token.{numberWidth, offsetWidth, tokenWidths, tokenFields, tokenIn, namedIn, NamedFits, token, named, namedAs, encodingOf, fitsAs}
 use Rattle.tokens.specs.declared.token.Named.{Named}
-use Rattle.bits.proofs.FieldLaws.{unpack-pack, pack-unpack}
+use Rattle.bits.proofs.FieldLaws.{pack-append, pack-lt, pack-unpack, unpack-pack}
 use Rattle.bits.proofs.TestLaws.{both}
 
 -- the fields of a word are its top bits and what `namedIn` reads
@@ -87,3 +87,48 @@ small-fits (suc zero) n g a b c = omega arith
 small-fits (suc (suc zero)) n g a b c = omega arith
 small-fits (suc (suc (suc zero))) n g a b c = omega arith
 small-fits (suc (suc (suc (suc e)))) n g a b c = absurd (omega arith)
+
+-- ---- shifts by a width, in a word of 64 bits
+
+pub shifted-one : (w : ℕ) → w ≤ 46 → 1 * 2 ^ w % 2 ^ 64 ≡ 2 ^ w
+shifted-one w h = shl-exact {a = 1} 1 w 64 (omega arith) (omega arith) ∙ one-mul (2 ^ w)
+
+-- a field more below what is packed, which loses no bit
+below : (ws vs : List ℕ) (w v x j : ℕ) → length ws ≡ length vs → x ≡ pack ws vs → x < 2 ^ j → j + w ≤ 64 → x * 2 ^ w % 2 ^ 64 + v ≡ pack (ws ++ (w ∷ [])) (vs ++ (v ∷ []))
+below ws vs w v x j l is h fits =
+    let z : w + 0 ≡ w = omega arith in
+    let y : v * 2 ^ 0 + 0 ≡ v = omega arith in
+    ap (λ (a : ℕ). a + v) (shl-exact j w 64 h fits ∙ ap₂ (λ (a b : ℕ). a * 2 ^ b) is (sym z)) ∙ ap (λ (a : ℕ). pack ws vs * 2 ^ (w + 0) + a) (sym y) ∙ sym (pack-append ws (w ∷ []) vs (v ∷ []) l)
+
+-- a token is made from the top, a field at a time
+module _ (w o e : ℕ) (n : Named) (sum : w + o ≡ 46) (fit : Fit (tokenWidths w o) (tokenFields e n)) where
+  abbrev top : ℕ
+  top = e * 65536 % 2 ^ 64 + n .tag
+
+  abbrev upper : ℕ
+  upper = top * 2 ^ w % 2 ^ 64 + n .number
+
+  abbrev whole : ℕ
+  whole = upper * 2 ^ o % 2 ^ 64 + n .offset
+
+  top-is : top ≡ pack (2 ∷ 16 ∷ []) (e ∷ n .tag ∷ [])
+  top-is = let z : e * 65536 % 2 ^ 64 ≡ e * 65536 = mod-eq-of-lt (omega (arith, fit .0)) in rw z (omega arith)
+
+  upper-is : upper ≡ pack (2 ∷ 16 ∷ w ∷ []) (e ∷ n .tag ∷ n .number ∷ [])
+  upper-is = below (2 ∷ 16 ∷ []) (e ∷ n .tag ∷ []) w (n .number) top 18 refl top-is (rw top-is (pack-lt (2 ∷ 16 ∷ []) (e ∷ n .tag ∷ []) (fit .0, (fit .1 .0, tt)))) (omega arith)
+
+  upper-lt : upper < 2 ^ (18 + w)
+  upper-lt =
+      let z : 2 + (16 + (w + 0)) ≡ 18 + w = omega arith in
+      rw (upper-is, ← z) (pack-lt (2 ∷ 16 ∷ w ∷ []) (e ∷ n .tag ∷ n .number ∷ []) (fit .0, (fit .1 .0, (fit .1 .1 .0, tt))))
+
+  pub upper-fits : upper < 2 ^ 64
+  upper-fits = lt-of-lt-of-le upper-lt (pow-mono {j = 64} (omega arith))
+
+  pub token-made : whole ≡ tokenIn w o e n
+  token-made = below (2 ∷ 16 ∷ w ∷ []) (e ∷ n .tag ∷ n .number ∷ []) o (n .offset) upper (18 + w) refl upper-is upper-lt (omega arith)
+
+  pub whole-fits : whole < 2 ^ 64
+  whole-fits =
+      let z : 2 + (16 + (w + (o + 0))) ≡ 64 = omega arith in
+      rw token-made (rw z at (pack-lt (tokenWidths w o) (tokenFields e n) fit))

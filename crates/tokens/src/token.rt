@@ -1,8 +1,11 @@
 // Tokens (Table 1): from the top bit the encoding (2 bits), the tag (16), the number and the
 // offset. Each encoding is a type, to which the widths of its number and its offset belong.
 ghost use mathlib.Core.Path.{_≡_};
-ghost use Prim.Native.Nat.{_<_};
-ghost use Rattle.tokens.specs.Token.{encodingOf, fitsAs, named, namedAs, NamedFits, packing, token};
+ghost use mathlib.Core.Bool.{_&&_};
+ghost use Prim.Native.Nat.{_+_, _^_, _<_};
+ghost use lib.Dec.{ltb};
+ghost use Rattle.bits.specs.Fields.{Fit};
+ghost use Rattle.tokens.specs.Token.{encodingOf, fitsAs, named, namedAs, namedIn, NamedFits, packing, token, tokenFields, tokenIn, tokenWidths};
 
 // What a token names: an entry, by its tag and number, and an offset.
 pub struct Named {
@@ -15,6 +18,36 @@ pub struct Named {
 pub enum Packing {
     Token(u64),
     TooWide,
+}
+
+// The encodings differ in two widths alone, the number's and the offset's, which are 46 together.
+// Over those: each part of n fits its field.
+fn fits_in(number: u64, offset: u64, n: Named) -> bool
+    requires { ⌜ number + offset ≡ 46 ⌝ }
+    ensures { λ r. ⌜ r ≡ (ltb (n .tag) (2 ^ 16) && ltb (n .number) (2 ^ number) && ltb (n .offset) (2 ^ offset)) ⌝ }
+{
+    (n.tag < 1 << 16) & (n.number < 1 << number) & (n.offset < 1 << offset)
+}
+
+// The word in encoding e with the parts of n.
+fn packed_in(number: u64, offset: u64, e: u64, n: Named) -> u64
+    requires { ⌜ (number + offset ≡ 46) × Fit (tokenWidths number offset) (tokenFields e n) ⌝ }
+    ensures { λ r. ⌜ r ≡ tokenIn number offset e n ⌝ }
+{
+    let high = (e << 16) + n.tag;
+    (((high << number) + n.number) << offset) + n.offset
+}
+
+// The parts of the word t.
+fn unpacked_in(number: u64, offset: u64, t: u64) -> Named
+    requires { ⌜ number + offset ≡ 46 ⌝ }
+    ensures { λ r. ⌜ r ≡ namedIn number offset t ⌝ }
+{
+    Named {
+        tag: (t >> (number + offset)) % (1 << 16),
+        number: (t >> offset) % (1 << number),
+        offset: t % (1 << offset),
+    }
 }
 
 // Encoding 0: a 14-bit number and a 32-bit offset.
@@ -30,27 +63,20 @@ impl Encoding0 {
     pub fn fits(n: Named) -> bool
         ensures { λ r. ⌜ r ≡ fitsAs 0 n ⌝ }
     {
-        (n.tag < 1 << 16)
-            & (n.number < 1 << Self::NUMBER_WIDTH)
-            & (n.offset < 1 << Self::OFFSET_WIDTH)
+        fits_in(Self::NUMBER_WIDTH, Self::OFFSET_WIDTH, n)
     }
 
     pub fn packed(n: Named) -> u64
         requires { ⌜ NamedFits 0 n ⌝ }
         ensures { λ r. ⌜ r ≡ token 0 n ⌝ }
     {
-        let high = (Self::ENCODING << 16) + n.tag;
-        (((high << Self::NUMBER_WIDTH) + n.number) << Self::OFFSET_WIDTH) + n.offset
+        packed_in(Self::NUMBER_WIDTH, Self::OFFSET_WIDTH, Self::ENCODING, n)
     }
 
     pub fn unpacked(t: u64) -> Named
         ensures { λ r. ⌜ r ≡ namedAs 0 t ⌝ }
     {
-        Named {
-            tag: (t >> (Self::NUMBER_WIDTH + Self::OFFSET_WIDTH)) % (1 << 16),
-            number: (t >> Self::OFFSET_WIDTH) % (1 << Self::NUMBER_WIDTH),
-            offset: t % (1 << Self::OFFSET_WIDTH),
-        }
+        unpacked_in(Self::NUMBER_WIDTH, Self::OFFSET_WIDTH, t)
     }
 }
 
@@ -67,27 +93,20 @@ impl Encoding1 {
     pub fn fits(n: Named) -> bool
         ensures { λ r. ⌜ r ≡ fitsAs 1 n ⌝ }
     {
-        (n.tag < 1 << 16)
-            & (n.number < 1 << Self::NUMBER_WIDTH)
-            & (n.offset < 1 << Self::OFFSET_WIDTH)
+        fits_in(Self::NUMBER_WIDTH, Self::OFFSET_WIDTH, n)
     }
 
     pub fn packed(n: Named) -> u64
         requires { ⌜ NamedFits 1 n ⌝ }
         ensures { λ r. ⌜ r ≡ token 1 n ⌝ }
     {
-        let high = (Self::ENCODING << 16) + n.tag;
-        (((high << Self::NUMBER_WIDTH) + n.number) << Self::OFFSET_WIDTH) + n.offset
+        packed_in(Self::NUMBER_WIDTH, Self::OFFSET_WIDTH, Self::ENCODING, n)
     }
 
     pub fn unpacked(t: u64) -> Named
         ensures { λ r. ⌜ r ≡ namedAs 1 t ⌝ }
     {
-        Named {
-            tag: (t >> (Self::NUMBER_WIDTH + Self::OFFSET_WIDTH)) % (1 << 16),
-            number: (t >> Self::OFFSET_WIDTH) % (1 << Self::NUMBER_WIDTH),
-            offset: t % (1 << Self::OFFSET_WIDTH),
-        }
+        unpacked_in(Self::NUMBER_WIDTH, Self::OFFSET_WIDTH, t)
     }
 }
 
@@ -104,27 +123,20 @@ impl Encoding2 {
     pub fn fits(n: Named) -> bool
         ensures { λ r. ⌜ r ≡ fitsAs 2 n ⌝ }
     {
-        (n.tag < 1 << 16)
-            & (n.number < 1 << Self::NUMBER_WIDTH)
-            & (n.offset < 1 << Self::OFFSET_WIDTH)
+        fits_in(Self::NUMBER_WIDTH, Self::OFFSET_WIDTH, n)
     }
 
     pub fn packed(n: Named) -> u64
         requires { ⌜ NamedFits 2 n ⌝ }
         ensures { λ r. ⌜ r ≡ token 2 n ⌝ }
     {
-        let high = (Self::ENCODING << 16) + n.tag;
-        (((high << Self::NUMBER_WIDTH) + n.number) << Self::OFFSET_WIDTH) + n.offset
+        packed_in(Self::NUMBER_WIDTH, Self::OFFSET_WIDTH, Self::ENCODING, n)
     }
 
     pub fn unpacked(t: u64) -> Named
         ensures { λ r. ⌜ r ≡ namedAs 2 t ⌝ }
     {
-        Named {
-            tag: (t >> (Self::NUMBER_WIDTH + Self::OFFSET_WIDTH)) % (1 << 16),
-            number: (t >> Self::OFFSET_WIDTH) % (1 << Self::NUMBER_WIDTH),
-            offset: t % (1 << Self::OFFSET_WIDTH),
-        }
+        unpacked_in(Self::NUMBER_WIDTH, Self::OFFSET_WIDTH, t)
     }
 }
 
@@ -141,27 +153,20 @@ impl Encoding3 {
     pub fn fits(n: Named) -> bool
         ensures { λ r. ⌜ r ≡ fitsAs 3 n ⌝ }
     {
-        (n.tag < 1 << 16)
-            & (n.number < 1 << Self::NUMBER_WIDTH)
-            & (n.offset < 1 << Self::OFFSET_WIDTH)
+        fits_in(Self::NUMBER_WIDTH, Self::OFFSET_WIDTH, n)
     }
 
     pub fn packed(n: Named) -> u64
         requires { ⌜ NamedFits 3 n ⌝ }
         ensures { λ r. ⌜ r ≡ token 3 n ⌝ }
     {
-        let high = (Self::ENCODING << 16) + n.tag;
-        (((high << Self::NUMBER_WIDTH) + n.number) << Self::OFFSET_WIDTH) + n.offset
+        packed_in(Self::NUMBER_WIDTH, Self::OFFSET_WIDTH, Self::ENCODING, n)
     }
 
     pub fn unpacked(t: u64) -> Named
         ensures { λ r. ⌜ r ≡ namedAs 3 t ⌝ }
     {
-        Named {
-            tag: (t >> (Self::NUMBER_WIDTH + Self::OFFSET_WIDTH)) % (1 << 16),
-            number: (t >> Self::OFFSET_WIDTH) % (1 << Self::NUMBER_WIDTH),
-            offset: t % (1 << Self::OFFSET_WIDTH),
-        }
+        unpacked_in(Self::NUMBER_WIDTH, Self::OFFSET_WIDTH, t)
     }
 }
 
