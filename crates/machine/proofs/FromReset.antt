@@ -4,6 +4,7 @@ use mathlib.Core.Path.{sym, _∙_}
 use Rattle.machine.specs.Demand3.{resetCall}
 use Rattle.machine.specs.FromReset.{FromReset}
 use Rattle.machine.specs.Steps.{Machine, run, step}
+use Rattle.machine.proofs.Settled.{settled-reset, settled-run}
 use Rattle.machine.proofs.Runs.{run-long, run-sum, run-well, sum-reset, Well, well-reset}
 
 pub from-reset : FromReset
@@ -13,6 +14,7 @@ from-reset σ k0 k1 ν b ok after nr =
     let first : Well ρ = well-reset σ k0 k1 ν b ok in
     let inv : Well (run ρ after) = run-well ρ after first nr in
     record {
+      settled = settled-run ρ after (settled-reset σ k0 k1 ν b ok);
       sum = run-sum ρ after first nr ∙ sum-reset σ k0 k1 ν b ok ∙ sym (run-long ρ after);
       one = inv .tiled;
       some = inv .covered;

@@ -12,6 +12,7 @@ pub mod Given
 pub mod Lent
 pub mod Refused
 pub mod Runs
+pub mod Settled
 pub mod SliceLaws
 pub mod Sums
 pub mod TableLaws
