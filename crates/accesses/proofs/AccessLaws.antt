@@ -13,7 +13,8 @@ use Rattle.layout.specs.declared.entry.Entry.{Entry}
 use Rattle.tokens.specs.declared.token.Named.{Named}
 use Rattle.checks.specs.Answers.{reachVerdict}
 use Rattle.checks.specs.Holds.{settingsHold}
-use Rattle.checks.proofs.VerdictLaws.{first-stops, passed, token-passes, token-stops}
+use Rattle.checks.proofs.VerdictLaws.{first-stops, token-passes, token-stops}
+use Rattle.machine.proofs.Decided.{passed}
 use Rattle.machine.specs.Operations.{numberOf, transfer}
 use Rattle.machine.specs.Parts as parts
 use Rattle.machine.specs.Parts.{at}
@@ -22,7 +23,9 @@ use Rattle.machine.specs.Steps.{pass, stop}
 use Rattle.machine.specs.Stops.{Check, checks, reachable, settings, taskFits, transferFits}
 use Rattle.machine.proofs.Lent.{access-inside}
 use Rattle.rulings.specs.Rulings.{decided, effectOn, grantedEffect, granting, handed, plainly, issuerAs, verdictOn}
-use Rattle.accesses.specs.Ways.{startOf, transferChecks, transferVerdict}
+use Rattle.accesses.specs.Ways.{loadAs, Loads, startOf, transferChecks, transferVerdict}
+use Rattle.accesses.specs.declared.access.Loading.{Loading}
+use Rattle.accesses.specs.declared.access.Loading.the-variants as loading
 use Rattle.rulings.specs.declared.answer.Outcome.{Outcome}
 use Rattle.rulings.specs.declared.issuer.Issuer.{Issuer}
 use Rattle.rulings.proofs.RulingLaws.{decided-pass, effect-pass}
@@ -85,6 +88,11 @@ module _ (m : ℕ) (s : parts.State) (t : List ℕ) (w : Way) (k u : ℕ) (b : L
     pub access-effect : effectOn m s t (access w k u) b ≡ transfer w (startOf t k) b
     unfolding grantedEffect
     access-effect = effect-pass m s t (access w k u) b h
+
+-- a read and a fetch take bytes from memory
+pub loads : (l : Loading) → Loads (loadAs l)
+loads loading.Read a b = refl
+loads loading.Fetch a b = refl
 
 -- what is handed back
 pub access-grants : (m : ℕ) (s : Issuer) (t : List ℕ) (w : Way) (k u : ℕ) (b : List ℕ) (r : Outcome) → r ≡ plainly s 0 → verdictOn m (issuerAs s) t (access w k u) b ≡ pass

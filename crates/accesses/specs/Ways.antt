@@ -11,6 +11,8 @@ use Rattle.machine.specs.Operations.{load, namedEntry, transfer}
 use Rattle.machine.specs.Requests as request
 use Rattle.machine.specs.Steps.{pass, Verdict, verdict}
 use Rattle.machine.specs.Stops.{Check, inBounds, rightsHeld}
+use Rattle.accesses.specs.declared.access.Loading.{Loading}
+use Rattle.accesses.specs.declared.access.Loading.the-variants as loading
 use Rattle.accesses.specs.declared.access.Transfer.{Transfer}
 use Rattle.accesses.specs.declared.access.Transfer.the-variants.{From, Stop}
 use Rattle.accesses.specs.declared.access.Way.{Way}
@@ -20,6 +22,11 @@ abbrev pub wayAs : Way → request.Way
 wayAs Read = request.reading
 wayAs Write = request.writing
 wayAs Fetch = request.fetching
+
+-- those that take bytes from memory
+abbrev pub loadAs : Loading → request.Way
+loadAs loading.Read = request.reading
+loadAs loading.Fetch = request.fetching
 
 -- the right and the bounds, for so many bytes
 abbrev pub transferChecks : List ℕ → request.Way → (token bytes : ℕ) → List Check

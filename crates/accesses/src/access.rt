@@ -20,12 +20,27 @@ ghost use Rattle.machine.specs.Operations.{numberOf};
 ghost use Rattle.machine.specs.Requests as request;
 ghost use Rattle.machine.specs.Steps.{bufferAfter, memoryAfter};
 ghost use Rattle.rulings.specs.Rulings.{decided, effectOn, handed, issuerAs, verdictOn};
-ghost use Rattle.accesses.specs.Ways.{Begins, Loads, startOf, transferVerdict, wayAs};
+ghost use Rattle.accesses.specs.Ways.{Begins, loadAs, startOf, transferVerdict, wayAs};
 
 pub enum Way {
     Read,
     Write,
     Fetch,
+}
+
+// The ways that take bytes from memory.
+pub enum Loading {
+    Read,
+    Fetch,
+}
+
+fn way_of(by: Loading) -> Way
+    ensures { λ r. ⌜ wayAs r ≡ loadAs by ⌝ }
+{
+    match by {
+        Loading::Read => Way::Read,
+        Loading::Fetch => Way::Fetch,
+    }
 }
 
 // What the checks of an access come to: where it stops, or where in memory it begins, at the
@@ -121,18 +136,25 @@ fn store(memory: &mut [u8], start: usize, buffer: &[u8])
 // Read or fetch: the segment's bytes at the token's offset go to the buffer, with R or X.
 pub fn fill(
     mut s: Issuer,
-    way: Way,
+    by: Loading,
     table: &[u8],
     memory: &[u8],
     buffer: &mut [u8],
     token: u64,
     task: u64,
 ) -> Outcome
-    requires { ⌜ Loads (wayAs way) ⌝ }
-    ensures { λ r. ⌜ handed r (now (table .entry)) ≡ decided (length (now (memory .entry))) (issuerAs s) (now (table .entry)) (request.access (wayAs way) token task) (now (buffer .entry)) ⌝ }
-    ensures { λ _. ⌜ now (buffer .exit) ≡ bufferAfter (effectOn (length (now (memory .entry))) (issuerAs s) (now (table .entry)) (request.access (wayAs way) token task) (now (buffer .entry))) (now (memory .entry)) (now (buffer .entry)) ⌝ }
+    ensures { λ r. ⌜ handed r (now (table .entry)) ≡ decided (length (now (memory .entry))) (issuerAs s) (now (table .entry)) (request.access (loadAs by) token task) (now (buffer .entry)) ⌝ }
+    ensures { λ _. ⌜ now (buffer .exit) ≡ bufferAfter (effectOn (length (now (memory .entry))) (issuerAs s) (now (table .entry)) (request.access (loadAs by) token task) (now (buffer .entry))) (now (memory .entry)) (now (buffer .entry)) ⌝ }
 {
-    let r = check_access(s, table, memory.len() as u64, way, token, task, buffer);
+    let r = check_access(
+        s,
+        table,
+        memory.len() as u64,
+        way_of(by),
+        token,
+        task,
+        buffer,
+    );
     match r {
         Transfer::Stop(why) => refused(s, why),
         Transfer::From(start) => {

@@ -21,9 +21,10 @@ use Rattle.machine.specs.Steps.{pass, stop, Verdict, verdict}
 use Rattle.machine.specs.Stops.{Check, entryNamed, lineAlive, lineFormed, live, lockOpen, reachable}
 use Rattle.machine.proofs.Basics.{range}
 use Rattle.machine.proofs.Fuel.{line-formed}
-use Rattle.checks.specs.Holds.{isNamed}
+use Rattle.checks.specs.Holds.{namedHolds}
 use Rattle.checks.specs.Answers.{formedVerdict, liveVerdict, reachVerdict, Reaches, refusalNumber}
-use Rattle.checks.proofs.VerdictLaws.{andThen, parts-pass, passed, passes, stops, verdict-append}
+use Rattle.checks.proofs.VerdictLaws.{andThen, parts-pass, passes, stops, verdict-append}
+use Rattle.machine.proofs.Decided.{passed}
 use Rattle.checks.specs.declared.answer.Refusal.{Refusal}
 use Rattle.checks.specs.declared.answer.Refusal.the-variants.{Bounds, Dead, Entry, IllFormed, Kind, Lock, Nonces, Numbers, Request, Right, Standing}
 use Rattle.checks.specs.declared.reach.Reached.{Reached}
@@ -31,42 +32,42 @@ use Rattle.checks.proofs.answer.Refusal as refusal
 
 -- ---- place 2
 
-module _ (t : List ℕ) (n : Named) where
-  pub entry-in : (e : entry.Entry) → e ≡ at t (n .number) → n .number < length t / 32 → (not (eqb (e .kind) 0) && eqb (e .tag) (n .tag)) ≡ isNamed t n
-  unfolding size isNamed
-  entry-in e q h = rw (q, lt-ltb (n .number) (length t / 32) h)
+module _ (t : List ℕ) (k : ℕ) (n : Named) (is : n ≡ named k) where
+  pub entry-in : (e : entry.Entry) → e ≡ at t (n .number) → n .number < length t / 32 → (not (eqb (e .kind) 0) && eqb (e .tag) (n .tag)) ≡ namedHolds t k
+  unfolding size namedHolds
+  entry-in e q h = let i : numberOf k < length t / 32 = rw is at h in rw (q, is, lt-ltb (numberOf k) (length t / 32) i)
 
-  pub entry-out : length t / 32 ≤ n .number → false ≡ isNamed t n
-  unfolding size isNamed
-  entry-out h = rw (le-ltb (n .number) (length t / 32) h)
+  pub entry-out : length t / 32 ≤ n .number → false ≡ namedHolds t k
+  unfolding size namedHolds
+  entry-out h = let i : length t / 32 ≤ numberOf k = rw is at h in rw (le-ltb (numberOf k) (length t / 32) i)
 
 -- an entry that is named stands in the table
 pub size-in : (t : List ℕ) (n : ℕ) → ltb n (size t) ≡ true → 32 * n + 32 ≤ length t
 unfolding size
 size-in t n h = let i : n < length t / 32 = ltb-true _ _ h in omega arith
 
-pub named-in : (t : List ℕ) (n : Named) → isNamed t n ≡ true → 32 * n .number + 32 ≤ length t
-unfolding isNamed
-named-in t n h = size-in t (n .number) (both _ _ (both _ _ h .0) .0)
+pub named-in : (t : List ℕ) (k : ℕ) → namedHolds t k ≡ true → 32 * numberOf k + 32 ≤ length t
+unfolding namedHolds
+named-in t k h = size-in t (numberOf k) (both _ _ (both _ _ h .0) .0)
 
 -- ---- places 3 and 4
 
 module _ (m : ℕ) (t : List ℕ) (k : ℕ) where
-  pub live-named : isNamed t (named k) ≡ false → liveVerdict m t k ≡ stop 2 0
-  unfolding liveVerdict isNamed
+  pub live-named : namedHolds t k ≡ false → liveVerdict m t k ≡ stop 2 0
+  unfolding liveVerdict namedHolds
   live-named h = stops 2 (entryNamed t k) (lineFormed m t k ∷ lineAlive m t k ∷ []) tt h
 
-  rest : isNamed t (named k) ≡ true → liveVerdict m t k ≡ verdict (lineFormed m t k ∷ lineAlive m t k ∷ [])
-  unfolding liveVerdict isNamed
+  rest : namedHolds t k ≡ true → liveVerdict m t k ≡ verdict (lineFormed m t k ∷ lineAlive m t k ∷ [])
+  unfolding liveVerdict namedHolds
   rest h = passes 2 (entryNamed t k) (lineFormed m t k ∷ lineAlive m t k ∷ []) tt h
 
-  pub live-ill : (i : ℕ) → isNamed t (named k) ≡ true → lineOf m t (numberOf k) ≡ ill i → liveVerdict m t k ≡ stop 3 (whose (numberOf k) i)
+  pub live-ill : (i : ℕ) → namedHolds t k ≡ true → lineOf m t (numberOf k) ≡ ill i → liveVerdict m t k ≡ stop 3 (whose (numberOf k) i)
   live-ill i h l = rest h ∙ rw l
 
-  pub live-dead : (d : ℕ) → isNamed t (named k) ≡ true → lineOf m t (numberOf k) ≡ dead d → liveVerdict m t k ≡ stop 4 (whose (numberOf k) d)
+  pub live-dead : (d : ℕ) → namedHolds t k ≡ true → lineOf m t (numberOf k) ≡ dead d → liveVerdict m t k ≡ stop 4 (whose (numberOf k) d)
   live-dead d h l = rest h ∙ rw l
 
-  pub live-owner : (o : ℕ) → isNamed t (named k) ≡ true → lineOf m t (numberOf k) ≡ owner o → liveVerdict m t k ≡ pass
+  pub live-owner : (o : ℕ) → namedHolds t k ≡ true → lineOf m t (numberOf k) ≡ owner o → liveVerdict m t k ≡ pass
   live-owner o h l = rest h ∙ rw l
 
   -- ---- place 5
@@ -96,25 +97,25 @@ numberIn pass = 0
 numberIn (stop r p) = r
 
 module _ (m : ℕ) (t : List ℕ) (k : ℕ) where
-  formed-named : isNamed t (named k) ≡ false → formedVerdict m t k ≡ stop 2 0
-  unfolding formedVerdict isNamed
+  formed-named : namedHolds t k ≡ false → formedVerdict m t k ≡ stop 2 0
+  unfolding formedVerdict namedHolds
   formed-named h = stops 2 (entryNamed t k) (lineFormed m t k ∷ []) tt h
 
-  form : isNamed t (named k) ≡ true → formedVerdict m t k ≡ verdict (lineFormed m t k ∷ [])
-  unfolding formedVerdict isNamed
+  form : namedHolds t k ≡ true → formedVerdict m t k ≡ verdict (lineFormed m t k ∷ [])
+  unfolding formedVerdict namedHolds
   form h = passes 2 (entryNamed t k) (lineFormed m t k ∷ []) tt h
 
-  formed-ill : (i : ℕ) → isNamed t (named k) ≡ true → lineOf m t (numberOf k) ≡ ill i → formedVerdict m t k ≡ stop 3 (whose (numberOf k) i)
+  formed-ill : (i : ℕ) → namedHolds t k ≡ true → lineOf m t (numberOf k) ≡ ill i → formedVerdict m t k ≡ stop 3 (whose (numberOf k) i)
   formed-ill i h l = form h ∙ rw l
 
   pub formed-dead : (p : ℕ) → liveVerdict m t k ≡ stop 4 p → (formedVerdict m t k ≡ pass) × (false ≡ isLocked t (lineOf m t (numberOf k)))
   unfolding numberIn
-  formed-dead p h = go (isNamed t (named k)) refl (lineOf m t (numberOf k)) refl
+  formed-dead p h = go (namedHolds t k) refl (lineOf m t (numberOf k)) refl
     where
       other : (v : Verdict) → liveVerdict m t k ≡ v → numberIn v ≡ 4
       other v e = ap numberIn (sym e ∙ h)
 
-      go : (b : Bool) → isNamed t (named k) ≡ b → (l : Line) → lineOf m t (numberOf k) ≡ l → (formedVerdict m t k ≡ pass) × (false ≡ isLocked t (lineOf m t (numberOf k)))
+      go : (b : Bool) → namedHolds t k ≡ b → (l : Line) → lineOf m t (numberOf k) ≡ l → (formedVerdict m t k ≡ pass) × (false ≡ isLocked t (lineOf m t (numberOf k)))
       go false q l e = absurd (omega (arith, other _ (live-named m t k q)))
       go true q (owner o) e = absurd (omega (arith, other _ (live-owner m t k o q e)))
       go true q (ill i) e = absurd (omega (arith, other _ (live-ill m t k i q e)))
@@ -122,9 +123,9 @@ module _ (m : ℕ) (t : List ℕ) (k : ℕ) where
 
   pub formed-stop : (r p : ℕ) → (r ≡ 4 → ⊥) → liveVerdict m t k ≡ stop r p → formedVerdict m t k ≡ stop r p
   unfolding numberIn
-  formed-stop r p n h = go (isNamed t (named k)) refl (lineOf m t (numberOf k)) refl
+  formed-stop r p n h = go (namedHolds t k) refl (lineOf m t (numberOf k)) refl
     where
-      go : (b : Bool) → isNamed t (named k) ≡ b → (l : Line) → lineOf m t (numberOf k) ≡ l → formedVerdict m t k ≡ stop r p
+      go : (b : Bool) → namedHolds t k ≡ b → (l : Line) → lineOf m t (numberOf k) ≡ l → formedVerdict m t k ≡ stop r p
       go false q l e = formed-named q ∙ sym (live-named m t k q) ∙ h
       go true q (owner o) e = let d : pass ≡ stop r p = sym (live-owner m t k o q e) ∙ h in let z : _≡_ {A = ℕ} 0 1 = cc in absurd (omega arith)
       go true q (ill i) e = formed-ill i q e ∙ sym (live-ill m t k i q e) ∙ h

@@ -8,6 +8,7 @@ use native.Mathlib.Omega.{arith}
 use lib.Dec.{T, eqb, eqb→eq}
 use Rattle.machine.specs.Steps.{pass, stop, Verdict, verdict}
 use Rattle.machine.specs.Stops.{Check}
+use Rattle.machine.proofs.Decided.{Passed, passed}
 use Rattle.checks.specs.Holds.{allHold, andHold}
 
 -- one list after another
@@ -80,19 +81,6 @@ andThen-pass (stop r p) w h = let z : _≡_ {A = ℕ} 0 1 = cc in absurd (omega 
 
 pub parts-pass : (cs ds : List Check) → verdict (cs ++ ds) ≡ pass → (verdict cs ≡ pass) × (verdict ds ≡ pass)
 parts-pass cs ds h = andThen-pass (verdict cs) (verdict ds) (sym (verdict-append cs ds) ∙ h)
-
--- a list that passes has every check hold
-abbrev pub Passed : List Check → Type 0
-Passed [] = Unit {0}
-Passed (c ∷ cs) = (c .holds ≡ true) × Passed cs
-
-pub passed : (cs : List Check) → verdict cs ≡ pass → Passed cs
-passed [] h = tt
-passed (c ∷ cs) h = go (c .holds) (passed cs) h
-  where
-    go : (b : Bool) → (verdict cs ≡ pass → Passed cs) → cond b (verdict cs) (stop (c .refusal) (c .place)) ≡ pass → (b ≡ true) × Passed cs
-    go true f h = (refl, f h)
-    go false f h = let z : _≡_ {A = ℕ} 0 1 = cc in absurd (omega arith)
 
 -- checks that all give the refusal r, and hold as one, hold each
 pub all-passed : (r : ℕ) (cs : List Check) → T (uniform r cs) → allHold cs ≡ true → Passed cs

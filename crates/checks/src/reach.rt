@@ -10,7 +10,7 @@ ghost use mathlib.Core.Path.{_≡_};
 ghost use Rattle.machine.specs.Line.{isLocked, lineOf, whose};
 ghost use Rattle.machine.specs.Operations.{numberOf};
 ghost use Rattle.checks.specs.Answers.{formedVerdict, Forms, liveVerdict, placeAs, Reaches, reachVerdict};
-ghost use Rattle.checks.specs.Holds.{isNamed};
+ghost use Rattle.checks.specs.Holds.{Names};
 
 // What the checks of a token come to: where it stops, or the owner of its line.
 pub enum Reached {
@@ -26,7 +26,7 @@ pub enum Formed {
 
 // Place 2: the number is in the table, its entry is not free and has the tag.
 fn entry_named(table: &[u8], n: Named) -> bool
-    ensures { λ r. ⌜ r ≡ isNamed (now (table .entry)) n ⌝ }
+    ensures { λ r. ⌜ Names r (now (table .entry)) n ⌝ }
 {
     if n.number < (table.len() / 32) as u64 {
         let e = entry_at(table, n.number as usize);

@@ -11,7 +11,8 @@ use Rattle.layout.specs.declared.entry.Entry.{Entry}
 use Rattle.tokens.specs.declared.token.Named.{Named}
 use Rattle.checks.specs.Answers.{reachVerdict}
 use Rattle.checks.specs.Holds.{settingsHold}
-use Rattle.checks.proofs.VerdictLaws.{more-fails, more-passes, more-stops, parts-pass, passed, passes, stops}
+use Rattle.checks.proofs.VerdictLaws.{more-fails, more-passes, more-stops, parts-pass, passes, stops}
+use Rattle.machine.proofs.Decided.{passed}
 use Rattle.machine.specs.Line.{isLocked, lineOf, owner}
 use Rattle.machine.specs.Operations.{numberOf, relock}
 use Rattle.machine.specs.Parts as parts

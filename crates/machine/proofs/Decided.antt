@@ -2,7 +2,7 @@
 -- Assumes nothing.
 use mathlib.Core.Path.{_≡_, refl, ap, _∙_}
 use mathlib.Core.Logic.{_≢_}
-use mathlib.Core.Bool.{Bool, true, false, not, _&&_}
+use mathlib.Core.Bool.{Bool, true, false, cond, not, _&&_}
 use mathlib.Core.List.{List, [], _∷_}
 use Prim.Native.Nat.{ℕ, _≤_}
 use native.Mathlib.Omega.{arith}
@@ -80,6 +80,19 @@ all-proper m s t (revoke k c) b = search proper depth 40 fits 4000
 abbrev pub Passed : List Check → Type 0
 Passed [] = Unit {0}
 Passed (c ∷ cs) = (c .holds ≡ true) × Passed cs
+
+-- and the verdict of such a list is a pass
+pub passed : (cs : List Check) → verdict cs ≡ pass → Passed cs
+passed [] h = tt
+passed (c ∷ cs) h = go (c .holds) (passed cs) h
+  where
+    go : (b : Bool) → (verdict cs ≡ pass → Passed cs) → cond b (verdict cs) (stop (c .refusal) (c .place)) ≡ pass → (b ≡ true) × Passed cs
+    go true f h = (refl, f h)
+    go false f h = let z : _≡_ {A = ℕ} 0 1 = cc in absurd (omega arith)
+
+pub passing : (cs : List Check) → Passed cs → verdict cs ≡ pass
+passing [] h = refl
+passing (c ∷ cs) h = rw (h .0) (passing cs (h .1))
 
 by-verdict : (P : Verdict → Type 0) (cs : List Check) → AllProper cs → (Passed cs → P pass) → ((r p : ℕ) → Told r p → P (stop r p)) → P (verdict cs)
 by-verdict P cs none f g = f tt

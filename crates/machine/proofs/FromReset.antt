@@ -1,9 +1,12 @@
 -- What holds from reset on does hold.
 -- Assumes nothing.
 use mathlib.Core.Path.{sym, _∙_}
+use lib.ListN.{length}
 use Rattle.machine.specs.Demand3.{resetCall}
 use Rattle.machine.specs.FromReset.{FromReset}
 use Rattle.machine.specs.Steps.{Machine, run, step}
+use Rattle.machine.specs.Stops.{settings}
+use Rattle.machine.proofs.Decided.{passing}
 use Rattle.machine.proofs.Settled.{settled-reset, settled-run}
 use Rattle.machine.proofs.Runs.{run-long, run-sum, run-well, sum-reset, Well, well-reset}
 
@@ -12,9 +15,10 @@ unfolding FromReset
 from-reset σ k0 k1 ν b ok after nr =
     let ρ : Machine = step σ (resetCall k0 k1 ν b) in
     let first : Well ρ = well-reset σ k0 k1 ν b ok in
-    let inv : Well (run ρ after) = run-well ρ after first nr in
+    let τ : Machine = run ρ after in
+    let inv : Well τ = run-well ρ after first nr in
     record {
-      settled = settled-run ρ after (settled-reset σ k0 k1 ν b ok);
+      settled = passing (settings (length (τ .memory)) (τ .state) (τ .table)) (settled-run ρ after (settled-reset σ k0 k1 ν b ok));
       sum = run-sum ρ after first nr ∙ sum-reset σ k0 k1 ν b ok ∙ sym (run-long ρ after);
       one = inv .tiled;
       some = inv .covered;

@@ -1,15 +1,16 @@
 -- A request gives the tokens that its answer carries, and no other: every grant, one by one.
 -- Assumes nothing.
 use mathlib.Core.Path.{_≡_, refl, sym, ap, _∙_}
-use mathlib.Core.Logic.{_≢_, _⊎_, inl, inr}
+use mathlib.Core.Logic.{_⊎_, inl, inr}
+use mathlib.Core.Bool.{true, not}
 use mathlib.Core.List.{List, [], _∷_, List·Memᴰ, List·Memᴰ·cases-cons, List·Memᴰ·head, List·Memᴰ·not-nil, List·Memᴰ·tail}
 use Prim.Native.Nat.{ℕ, _≤_, _<_}
 use native.Mathlib.Nat.{mod-lt}
 use native.Mathlib.Omega.{arith}
-use lib.Dec.{eqb}
+use lib.Dec.{eqb, leb, ltb}
 use lib.ListN.{length}
 use lib.Pow.{pow-pos}
-use borrow.Author.Tests.{leb-true, ltb-true}
+use borrow.Author.Tests.{leb-true, lt-ltb, ltb-true}
 use Rattle.layout.specs.Tag.{tagOf}
 use Rattle.layout.specs.declared.entry.Entry.{Entry}
 use Rattle.tokens.specs.declared.token.Named.{Named}
@@ -71,32 +72,27 @@ module _ (m : ℕ) (s : State) (t : List ℕ) where
   abbrev Given-by : Decision → Type 0
   Given-by d = Gives (d .issued) (d .reply .first) (d .reply .second)
 
-  -- a number of the table, and a new one, are small
-  small : (n : ℕ) → n < size t → size t ≤ mostEntries → n < 1024
-  small n h g = omega arith
+  -- the token of what is issued under a number of the table, and under a new one
+  module _ (c : ℕ) (e : Entry) (encoded : leb c 3 ≡ true) (most : leb (size t) mostEntries ≡ true) where
+    old : (n : ℕ) → ltb n (size t) ≡ true → nameIn (tokenOf c n (issue s n e)) ≡ nameOf n (issue s n e)
+    old n h = names s c n e (leb-true c 3 encoded) (omega (arith, ltb-true n (size t) h, leb-true (size t) mostEntries most))
 
-  new-small : newNumber s t ≢ 0 → size t ≤ mostEntries → newNumber s t < 1024
-  new-small h g = small (newNumber s t) (number-first s t h .inside) g
+    new : not (eqb (newNumber s t) 0) ≡ true → nameIn (tokenOf c (newNumber s t) (issue s (newNumber s t) e)) ≡ nameOf (newNumber s t) (issue s (newNumber s t) e)
+    new h = old (newNumber s t) (lt-ltb (newNumber s t) (size t) (number-first s t (neqb-true (newNumber s t) 0 h) .inside))
 
   granted-gives : (q : Request) (b : List ℕ) → Passed (checks m s t q b) → Given-by (grant m s t q b)
   granted-gives (reset k0 k1 ν) b h = one (record { number = 0; tag = 0 }) 0 refl
   granted-gives (access w k u) b h = none
   granted-gives (create k u l x p c) b h =
-      let most : size t ≤ mostEntries = leb-true _ _ (search) in
-      let old = small (numberOf k) (ltb-true _ _ (search)) most in
-      let new = new-small (neqb-true (newNumber s t) 0 (search)) most in
-      let encoded : c ≤ 3 = leb-true c 3 (search) in
-      by-cond Given-by (eqb l (at t (numberOf k) .length))
-      (λ e. one _ _ (names s c (newNumber s t) _ encoded new))
-      (λ e. two _ _ _ _ (names s c (newNumber s t) _ encoded new) (names s c (numberOf k) _ encoded old))
-  granted-gives (merge j k u c) b h = one _ _ (names s c (numberOf j) _ (leb-true c 3 (search)) (small (numberOf j) (ltb-true _ _ (search)) (leb-true _ _ (search))))
-  granted-gives (derive k o l p c) b h = one _ _ (names s c (newNumber s t) _ (leb-true c 3 (search)) (new-small (neqb-true (newNumber s t) 0 (search)) (leb-true _ _ (search))))
-  granted-gives (executeOnly k c) b h = one _ _ (names s c (newNumber s t) _ (leb-true c 3 (search)) (new-small (neqb-true (newNumber s t) 0 (search)) (leb-true _ _ (search))))
+      by-cond Given-by (eqb l (at t (numberOf k) .length)) (λ e. one _ _ (new c _ (search) (search) (search))) (λ e. two _ _ _ _ (new c _ (search) (search) (search)) (old c _ (search) (search) (numberOf k) (search)))
+  granted-gives (merge j k u c) b h = one _ _ (old c _ (search) (search) (numberOf j) (search))
+  granted-gives (derive k o l p c) b h = one _ _ (new c _ (search) (search) (search))
+  granted-gives (executeOnly k c) b h = one _ _ (new c _ (search) (search) (search))
   granted-gives (clone k) b h = none
   granted-gives (release k) b h = none
   granted-gives (lock k u) b h = none
   granted-gives (unlock k u) b h = none
-  granted-gives (revoke k c) b h = one _ _ (names s c (numberOf k) _ (leb-true c 3 (search)) (small (numberOf k) (ltb-true _ _ (search)) (leb-true _ _ (search))))
+  granted-gives (revoke k c) b h = one _ _ (old c _ (search) (search) (numberOf k) (search))
 
 pub given : Given
 unfolding Given

@@ -12,9 +12,10 @@ use Rattle.layout.specs.Form.{illFormed}
 use Rattle.layout.specs.declared.entry.Entry.{Entry}
 use Rattle.machine.specs.Demand3.{Accepted, In, Linked, NoReset, resetCall}
 use Rattle.machine.specs.Line.{parentNumber}
-use Rattle.machine.specs.Parts.{at, size, spent}
+use Rattle.machine.specs.Parts.{at, size}
 use Rattle.machine.specs.Requests.{Call}
-use Rattle.machine.specs.Steps.{Machine, run}
+use Rattle.machine.specs.Steps.{Machine, pass, run, verdict}
+use Rattle.machine.specs.Stops.{settings}
 
 -- how many bytes an entry owns: a direct one its length, any other none
 abbrev pub owned : Entry → ℕ
@@ -43,15 +44,10 @@ pub record Inside (e p : Entry) : Type 0 where
   pub low : p .base ≤ e .base
   pub high : e .base + e .length ≤ p .base + p .length
 
--- the state is as place 1 wants it, so that no request is refused for what stands there
-pub record Settled (σ : Machine) : Type 0 where
-  pub last : σ .state .last < size (σ .table)
-  pub least : 1 ≤ σ .state .next
-  pub most : σ .state .next ≤ spent
-
 -- the machine is in order
 pub record Sound (σ : Machine) : Type 0 where
-  pub settled : Settled σ
+  -- place 1, as far as it is the same for all requests but reset, refuses none: sizes and settings hold
+  pub settled : verdict (settings (length (σ .memory)) (σ .state) (σ .table)) ≡ pass
   -- "From reset on, the lengths of all direct entries add up to the memory's length,"
   pub sum : ownedInAll (σ .table) ≡ length (σ .memory)
   -- "and no byte has two owners." Each has one.

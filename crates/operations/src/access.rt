@@ -1,7 +1,7 @@
 // Accesses: read, write and fetch, through a token, at its offset.
 use crate::state::Served;
 use crate::state::State;
-use accesses::access::Way;
+use accesses::access::Loading;
 use accesses::access::fill;
 use accesses::access::write;
 ghost use mathlib.Core.Path.{_≡_};
@@ -25,7 +25,7 @@ impl State {
         ensures { λ _. ⌜ now (buffer .exit) ≡ bufferAfter (effectOn (length (now (memory .entry))) (stateAs self) (now (table .entry)) (request.access request.reading token task) (now (buffer .entry))) (now (memory .entry)) (now (buffer .entry)) ⌝ }
     {
         let issuer = self.issuer;
-        let o = fill(issuer, Way::Read, table, memory, buffer, token, task);
+        let o = fill(issuer, Loading::Read, table, memory, buffer, token, task);
         let issuer = o.issuer;
         let answer = o.answer;
         Served {
@@ -47,7 +47,7 @@ impl State {
         ensures { λ _. ⌜ now (buffer .exit) ≡ bufferAfter (effectOn (length (now (memory .entry))) (stateAs self) (now (table .entry)) (request.access request.fetching token task) (now (buffer .entry))) (now (memory .entry)) (now (buffer .entry)) ⌝ }
     {
         let issuer = self.issuer;
-        let o = fill(issuer, Way::Fetch, table, memory, buffer, token, task);
+        let o = fill(issuer, Loading::Fetch, table, memory, buffer, token, task);
         let issuer = o.issuer;
         let answer = o.answer;
         Served {

@@ -13,7 +13,8 @@ use Rattle.tokens.specs.declared.token.Named.{Named}
 use Rattle.checks.specs.Answers.{liveVerdict}
 use Rattle.checks.specs.Holds.{settingsHold}
 use Rattle.checks.proofs.ReachLaws.{live-in}
-use Rattle.checks.proofs.VerdictLaws.{first-stops, parts-pass, passed, token-passes, token-stops}
+use Rattle.checks.proofs.VerdictLaws.{first-stops, parts-pass, token-passes, token-stops}
+use Rattle.machine.proofs.Decided.{passed}
 use Rattle.machine.specs.Operations.{numberOf, recount}
 use Rattle.machine.specs.Parts as parts
 use Rattle.machine.specs.Parts.{at, put}

@@ -14,7 +14,8 @@ use Rattle.layout.specs.declared.entry.Entry.{Entry}
 use Rattle.tokens.specs.declared.token.Named.{Named}
 use Rattle.checks.specs.Answers.{liveVerdict}
 use Rattle.checks.specs.Holds.{settingsHold}
-use Rattle.checks.proofs.VerdictLaws.{all-passed, first-stops, Passed, token-passes, token-stops}
+use Rattle.checks.proofs.VerdictLaws.{all-passed, first-stops, token-passes, token-stops}
+use Rattle.machine.proofs.Decided.{Passed}
 use Rattle.machine.specs.Issuing.{newNumber}
 use Rattle.machine.specs.Operations.{namedEntry, numberOf}
 use Rattle.machine.specs.Parts as parts

@@ -10,7 +10,7 @@ use Rattle.machine.specs.Parts as parts
 use Rattle.machine.specs.Requests.{Request}
 use Rattle.machine.specs.Steps.{decide, pass, settle, Verdict, stop}
 use Rattle.rulings.specs.Rulings.{checkedAs, decided, effectOn, granting, handed, refusing, ruled, Ruling, issuerAs, verdictOn, grantedEffect}
-use Rattle.checks.proofs.VerdictLaws.{Passed, passed}
+use Rattle.machine.proofs.Decided.{Passed, passed}
 use Rattle.machine.specs.Stops.{checks}
 use Rattle.rulings.specs.declared.answer.Checked.{Checked}
 use Rattle.rulings.specs.declared.answer.Checked.the-variants.{Pass, Stop}

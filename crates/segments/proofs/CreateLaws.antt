@@ -15,7 +15,8 @@ use Rattle.layout.specs.declared.entry.Entry.{Entry}
 use Rattle.tokens.specs.declared.token.Named.{Named}
 use Rattle.checks.specs.Answers.{reachVerdict}
 use Rattle.checks.specs.Holds.{allHold, settingsHold}
-use Rattle.checks.proofs.VerdictLaws.{all-passed, first-stops, Passed, token-passes, token-stops}
+use Rattle.checks.proofs.VerdictLaws.{all-passed, first-stops, token-passes, token-stops}
+use Rattle.machine.proofs.Decided.{Passed}
 use Rattle.machine.specs.Issuing.{issue, newNumber}
 use Rattle.machine.specs.Operations.{Decision, namedEntry, numberOf, tokenOf}
 use Rattle.machine.specs.Parts as parts

@@ -1,6 +1,6 @@
 -- Merge: the ways out of its checks, and what they leave.
 -- Assumes nothing.
-use mathlib.Core.Path.{_≡_, refl, _∙_, ap, subst}
+use mathlib.Core.Path.{_≡_, _∙_, ap, subst}
 use mathlib.Core.Bool.{Bool, true, false, not, _&&_}
 use mathlib.Core.List.{List, [], _∷_, _++_}
 use Prim.Native.Nat.{ℕ, _+_, _*_, _/_, _^_, _≤_, _<_}
@@ -17,7 +17,8 @@ use Rattle.layout.proofs.EntryLaws.{direct-fits}
 use Rattle.checks.specs.Answers.{reachVerdict}
 use Rattle.checks.specs.Holds.{settingsHold}
 use Rattle.checks.proofs.ReachLaws.{reached-inside, size-in}
-use Rattle.checks.proofs.VerdictLaws.{andThen, first-stops, Passed, passed, passes, stops, token-passes, token-stops, verdict-append}
+use Rattle.checks.proofs.VerdictLaws.{andThen, first-stops, passes, stops, token-passes, token-stops, verdict-append}
+use Rattle.machine.proofs.Decided.{Passed, passed}
 use Rattle.machine.specs.Issuing.{issue}
 use Rattle.machine.specs.Operations.{namedEntry, numberOf, tokenOf}
 use Rattle.machine.specs.Parts as parts
@@ -113,14 +114,13 @@ module _ (m : ℕ) (s : parts.State) (t : List ℕ) (j k u c : ℕ) where
       merge-reached d e d-is e-is h = token-passes first tokens last tt (rw (isFirst, isSecond) at ok) h ∙ rw (d-is, e-is, isFirst, isSecond)
 
       -- the numbers are those that the tokens name
-      pub merge-pairs : (r : Pair) → bothVerdict m t j k u ≡ pass → Pairs r (neighbourVerdict (at t (a .number)) (at t (b .number)) (s .next)) (a .number) (b .number)
+      pub merge-pairs : (r : Pair) (d e : Entry) → d ≡ at t (a .number) → e ≡ at t (b .number) → bothVerdict m t j k u ≡ pass → Pairs r (neighbourVerdict d e (s .next)) (a .number) (b .number)
           → Pairs r (verdictOn m s t (merge j k u c) []) (numberOf j) (numberOf k)
-      merge-pairs r h p =
-          let is = merge-reached (at t (a .number)) (at t (b .number)) refl refl h in
-          let v : Verdict = neighbourVerdict (at t (a .number)) (at t (b .number)) (s .next) in
+      merge-pairs r d e d-is e-is h p =
+          let v : Verdict = neighbourVerdict d e (s .next) in
           let one : Pairs r v (numberOf j) (b .number) = subst (λ (x : Named). Pairs r v (x .number) (b .number)) isFirst p in
           let both : Pairs r v (numberOf j) (numberOf k) = subst (λ (x : Named). Pairs r v (numberOf j) (x .number)) isSecond one in
-          rw is both
+          rw (merge-reached d e d-is e-is h) both
 
 -- ---- what a pass says, where the entries have the numbers n and p
 

@@ -11,7 +11,8 @@ use borrow.Author.Tests.{leb-true}
 use Rattle.layout.specs.Entry.{direct}
 use Rattle.layout.specs.declared.entry.Entry.{Entry}
 use Rattle.checks.specs.Holds.{sizesHold}
-use Rattle.checks.proofs.VerdictLaws.{passed, passes, stops}
+use Rattle.checks.proofs.VerdictLaws.{passes, stops}
+use Rattle.machine.proofs.Decided.{passed}
 use Rattle.machine.specs.Parts as parts
 use Rattle.machine.specs.Parts.{cleared, put, size, spent}
 use Rattle.machine.specs.Requests.{reset}

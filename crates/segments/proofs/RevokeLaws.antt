@@ -17,7 +17,8 @@ use Rattle.tokens.specs.declared.token.Named.{Named}
 use Rattle.checks.specs.Answers.{liveVerdict}
 use Rattle.checks.specs.Holds.{settingsHold}
 use Rattle.checks.proofs.ReachLaws.{reached-inside}
-use Rattle.checks.proofs.VerdictLaws.{all-passed, first-stops, Passed, token-passes, token-stops}
+use Rattle.checks.proofs.VerdictLaws.{all-passed, first-stops, token-passes, token-stops}
+use Rattle.machine.proofs.Decided.{Passed}
 use Rattle.machine.specs.Issuing.{passOver}
 use Rattle.machine.specs.Operations.{fresh, numberOf, revokeNonce}
 use Rattle.machine.specs.Parts as parts

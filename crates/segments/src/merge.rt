@@ -17,10 +17,9 @@ use table::entries::put_words;
 use tokens::token::read;
 ghost use mathlib.Core.Path.{_≡_};
 ghost use mathlib.Core.List.{[]};
-ghost use Prim.Native.Nat.{_+_, _*_, _≤_, _<_, _^_};
+ghost use Prim.Native.Nat.{_+_, _<_, _^_};
 ghost use lib.ListN.{length};
 ghost use Rattle.machine.specs.Operations.{numberOf};
-ghost use Rattle.machine.specs.Parts.{at};
 ghost use Rattle.machine.specs.Requests as request;
 ghost use Rattle.segments.specs.Neighbours.{bothVerdict, Joining, joining, merging, neighbourVerdict, Pairs};
 ghost use Rattle.rulings.specs.Rulings.{checkedAs, decided, handed, issuerAs, verdictOn};
@@ -48,36 +47,24 @@ fn reach_both(table: &[u8], memory: u64, first: u64, second: u64, task: u64) -> 
     }
 }
 
-// Places 6 to 11: e starts where d ends, and one nonce is left.
-fn neighbours(d: Entry, e: Entry, next: u64) -> Checked
-    ensures { λ r. ⌜ checkedAs r ≡ neighbourVerdict d e next ⌝ }
+// Places 6 to 11, for d of number n and e of number k: e starts where d ends, and one nonce is left.
+fn neighbours(d: Entry, e: Entry, n: usize, k: usize, next: u64) -> Pair
+    ensures { λ r. ⌜ Pairs r (neighbourVerdict d e next) n k ⌝ }
 {
     if !((d.kind == 1) & (e.kind == 1)) {
-        return Checked::Stop(Refusal::Kind);
+        return Pair::Stop(Refusal::Kind);
     }
     let end = (d.base as u64) + (d.length as u64);
     if (e.base as u64) != end {
-        return Checked::Stop(Refusal::Bounds);
+        return Pair::Stop(Refusal::Bounds);
     }
     if !(!d.locked & !e.locked & (d.count == 0) & (e.count == 0)) {
-        return Checked::Stop(Refusal::Standing);
+        return Pair::Stop(Refusal::Standing);
     }
     if next < 4294967296 {
-        Checked::Pass
+        Pair::Numbers(n, k)
     } else {
-        Checked::Stop(Refusal::Nonces)
-    }
-}
-
-// The same for the entries of numbers n and k.
-fn check_pair(table: &[u8], n: usize, k: usize, next: u64) -> Pair
-    requires { ⌜ (32 * n + 32 ≤ length (now table)) × (32 * k + 32 ≤ length (now table)) ⌝ }
-    ensures { λ r. ⌜ Pairs r (neighbourVerdict (at (now (table .entry)) n) (at (now (table .entry)) k) next) n k ⌝ }
-{
-    let r = neighbours(entry_at(table, n), entry_at(table, k), next);
-    match r {
-        Checked::Stop(why) => Pair::Stop(why),
-        Checked::Pass => Pair::Numbers(n, k),
+        Pair::Stop(Refusal::Nonces)
     }
 }
 
@@ -113,7 +100,11 @@ fn check_merge(
         let r = reach_both(table, memory, first, second, task);
         match r {
             Checked::Stop(why) => Pair::Stop(why),
-            Checked::Pass => check_pair(table, a.number as usize, b.number as usize, s.next),
+            Checked::Pass => {
+                let n = a.number as usize;
+                let k = b.number as usize;
+                neighbours(entry_at(table, n), entry_at(table, k), n, k, s.next)
+            }
         }
     } else {
         Pair::Stop(Refusal::Request)

@@ -11,5 +11,5 @@ entry-named-spec =
     (tie.spec
     (λ c κs. search needs)
     (λ c. search needs)
-    (λ c. let e = c .before .before .before in entry-in _ _ (e .entry-at .result) (e .entry-at .ensures) (e .before .if1 .taken))
-    (λ c. entry-out _ _ (c .if1 .left)))
+    (λ c k is. let e = c .before .before .before in entry-in _ k _ is (e .entry-at .result) (e .entry-at .ensures) (e .before .if1 .taken))
+    (λ c k is. entry-out _ k _ is (c .if1 .left)))

@@ -4,22 +4,20 @@ use mathlib.Core.Path.{_≡_, sym, _∙_, ap}
 use mathlib.Core.Bool.{Bool, true}
 use borrow.Author.Needs.{needs}
 use borrow.Author.Tests.{not-false, not-true}
-use Rattle.tokens.specs.Token as token
 use Rattle.machine.specs.Line.{lineOf}
 use Rattle.machine.specs.Operations.{numberOf}
 use Rattle.machine.specs.Steps.{stop}
 use Rattle.table.specs.Lines.{lineAs}
-use Rattle.checks.specs.Holds.{isNamed}
+use Rattle.checks.specs.Holds.{namedHolds}
 use Rattle.checks.proofs.ReachLaws.{live-dead, live-ill, live-named, live-owner, named-in}
 use Rattle.checks.proofs.reach.reach_live.Statement.{statement}
 use Rattle.checks.proofs.reach.reach_live.Tie as tie
 
--- whether the entry is named, as the test says
-test : (c : tie.After-entry-named) (b : Bool) → c .entry-named .result ≡ b
-    → isNamed (c .before .before .before .args .table .now) (token.named (c .before .before .before .args .k)) ≡ b
-test c b q = sym (rw (c .before .read .ensures) at (c .entry-named .ensures)) ∙ q
+-- whether place 2 holds, as the test says
+test : (c : tie.After-entry-named) (b : Bool) → c .entry-named .result ≡ b → namedHolds (c .before .before .before .args .table .now) (c .before .before .before .args .k) ≡ b
+test c b q = sym (c .entry-named .ensures _ (c .before .read .ensures)) ∙ q
 
-named : (c : tie.Else1) → isNamed (c .before .before .before .before .args .table .now) (token.named (c .before .before .before .before .args .k)) ≡ true
+named : (c : tie.Else1) → namedHolds (c .before .before .before .before .args .table .now) (c .before .before .before .before .args .k) ≡ true
 named c = test (c .before) _ (not-false _ (c .if1 .left))
 
 line : (c : tie.After-walk)

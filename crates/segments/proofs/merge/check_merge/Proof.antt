@@ -34,16 +34,20 @@ check-merge-spec =
     (λ c. search needs)
     (λ c κs.
     let r = c .before .before in
-    let n = r .before .before .before .before .before in
-    rw (n .before .read .ensures, n .read2 .ensures) (both-in _ _ _ _ _ (tokens r _ (c .enum-told .given .1))))
+    rw (r .before .before .before .before .before .before .read .ensures) (both-in _ _ _ _ _ (tokens r _ (c .enum-told .given .1)) .0))
+    (λ c κs.
+    let r = c .before .before .before in
+    rw (r .before .before .before .before .before .read2 .ensures) (both-in _ _ _ _ _ (tokens r _ (c .before .enum-told .given .1)) .1))
+    (λ c κs. search needs)
     (λ c.
     let r = c .before .before .before in
     let n = r .before .before .before .before .before in
     merge-token _ _ _ _ _ _ _ _ _ (n .before .read .ensures) (n .read2 .ensures) (first (r .before)) _ _ (tokens r _ (c .before .r .given .1)))
     (λ c.
-    let r = c .before .before .before in
+    let e = c .before in
+    let r = e .before .before .before .before in
     let n = r .before .before .before .before .before in
-    merge-pairs _ _ _ _ _ _ _ _ _ (n .before .read .ensures) (n .read2 .ensures) (first (r .before)) (c .check-pair .result) (tokens r _ (c .before .enum-told .given .1)) (c .check-pair .ensures))
+    merge-pairs _ _ _ _ _ _ _ _ _ (n .before .read .ensures) (n .read2 .ensures) (first (r .before)) (c .neighbours .result) _ _ (e .before .entry-at .ensures) (e .entry-at2 .ensures) (tokens r _ (e .before .before .enum-told .given .1)) (c .neighbours .ensures))
     (λ c.
     let n = c .before .before .before .before in
     merge-request _ _ _ _ _ _ _ _ _ (n .before .read .ensures) (n .read2 .ensures) (rw (c .before .before .before .settings .ensures) at (c .if1 .left))))
