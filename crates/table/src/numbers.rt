@@ -7,7 +7,7 @@ ghost use lib.Dec.{eqb};
 ghost use lib.ListN.{length};
 ghost use Rattle.machine.specs.Issuing.{seek};
 ghost use Rattle.machine.specs.Parts.{at, size};
-ghost use Rattle.table.specs.Searches.{firstFree, fourTaken};
+ghost use Rattle.table.specs.Searches.{firstFree, fourTaken, Sought};
 
 // The entry of number n is free.
 fn is_free(table: &[u8], n: usize) -> bool
@@ -28,7 +28,7 @@ fn four_taken(table: &[u8], n: usize) -> bool
 // Passes over taken numbers from the start on, four by four.
 fn skip(table: &[u8], start: usize, end: usize) -> usize
     requires { ⌜ (start ≤ end) × (32 * end ≤ length (now table)) ⌝ }
-    ensures { λ r. ⌜ (r ≤ end) × (firstFree (end - r) (now (table .entry)) r ≡ firstFree (end - start) (now (table .entry)) start) ⌝ }
+    ensures { λ r. ⌜ Sought (now (table .entry)) start end r ⌝ }
 {
     let mut n = start;
     while 4 <= end - n {

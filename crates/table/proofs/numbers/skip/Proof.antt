@@ -1,16 +1,16 @@
 -- `table::numbers::skip` meets its contract. The loop's invariant: the first free number is that from n on.
 -- Assumes nothing.
-use mathlib.Core.Path.{_≡_, refl, sym, _∙_}
-use Prim.Native.Nat.{_-_, _≤_}
+use mathlib.Core.Path.{refl, sym, _∙_}
+use Prim.Native.Nat.{_-_}
 use borrow.Author.Needs.{needs}
 use borrow.Author.Tests.{not-false}
-use Rattle.table.specs.Searches.{firstFree}
+use Rattle.table.specs.Searches.{Sought}
 use Rattle.table.proofs.SearchLaws.{first-on-four}
 use Rattle.table.proofs.numbers.skip.Statement.{statement}
 use Rattle.table.proofs.numbers.skip.Tie as tie
 
 abbrev Inv-loop : tie.InvT-loop
-Inv-loop table start end n₀ n = (n ≤ end) × (firstFree (end - n) table n ≡ firstFree (end - start) table start)
+Inv-loop table start end n₀ n = Sought table start end n
 
 abbrev μ-loop : tie.MeasureT-loop
 μ-loop table start end n₀ n = end - n
