@@ -1,9 +1,8 @@
 -- A request gives the tokens that its answer carries, and no other: every grant, one by one.
 -- Assumes nothing.
-use mathlib.Core.Path.{_≡_, refl, sym, ap, _∙_}
-use mathlib.Core.Logic.{_⊎_, inl, inr}
+use mathlib.Core.Path.{_≡_, refl, sym, ap, ap₂}
 use mathlib.Core.Bool.{true, not}
-use mathlib.Core.List.{List, [], _∷_, List·Memᴰ, List·Memᴰ·cases-cons, List·Memᴰ·head, List·Memᴰ·not-nil, List·Memᴰ·tail}
+use mathlib.Core.List.{List, [], _∷_}
 use Prim.Native.Nat.{ℕ, _≤_, _<_}
 use native.Mathlib.Nat.{mod-lt}
 use native.Mathlib.Omega.{arith}
@@ -15,7 +14,7 @@ use Rattle.layout.specs.Tag.{tagOf}
 use Rattle.layout.specs.declared.entry.Entry.{Entry}
 use Rattle.tokens.specs.declared.token.Named.{Named}
 use Rattle.tokens.proofs.TokenLaws.{read-packed, small-fits}
-use Rattle.machine.specs.Given.{Given, Gives, nameIn}
+use Rattle.machine.specs.Given.{Given, Gives, nameIn, places}
 use Rattle.machine.specs.Issuing.{issue, newNumber}
 use Rattle.machine.specs.Operations.{Decision, grant, Name, nameOf, numberOf, tokenOf}
 use Rattle.machine.specs.Parts.{at, mostEntries, size, State}
@@ -23,41 +22,19 @@ use Rattle.machine.specs.Requests.{access, clone, create, derive, execut
 use Rattle.machine.specs.Stops.{checks}
 use Rattle.machine.proofs.Basics.{neqb-true}
 use Rattle.machine.proofs.Choices.{by-cond}
-use Rattle.machine.proofs.Decided.{decided, Passed}
+use Rattle.machine.proofs.Decided.{accepted, Passed}
 use Rattle.machine.proofs.Fuel.{number-first}
 
 -- ---- none, one or two tokens
 
-none : Gives [] 0 0
-none = record { carried = λ k m. absurd (List·Memᴰ·not-nil m); first = λ h. absurd (h refl); second = λ h. absurd (h refl) }
+none : Gives 0 [] 0 0
+none = record { names = refl; first = λ h. refl; second = λ h. refl }
 
-one : (k : Name) (a : ℕ) → nameIn a ≡ k → Gives (k ∷ []) a 0
-one k a e =
-    record {
-      carried = λ j m. inl (only j (List·Memᴰ·cases-cons m) ∙ sym e);
-      first = λ h. List·Memᴰ·head e;
-      second = λ h. absurd (h refl);
-    }
-  where
-    only : (j : Name) → (j ≡ k) ⊎ List·Memᴰ j [] → j ≡ k
-    only j (inl q) = q
-    only j (inr m) = absurd (List·Memᴰ·not-nil m)
+one : (k : Name) (a : ℕ) → nameIn a ≡ k → Gives 1 (k ∷ []) a 0
+one k a e = record { names = ap (λ (x : Name). x ∷ []) (sym e); first = λ h. absurd (omega arith); second = λ h. refl }
 
-two : (k l : Name) (a b : ℕ) → nameIn a ≡ k → nameIn b ≡ l → Gives (k ∷ l ∷ []) a b
-two k l a b e f =
-    record {
-      carried = λ j m. either j (List·Memᴰ·cases-cons m);
-      first = λ h. List·Memᴰ·head e;
-      second = λ h. List·Memᴰ·tail (List·Memᴰ·head f);
-    }
-  where
-    either : (j : Name) → (j ≡ k) ⊎ List·Memᴰ j (l ∷ []) → (j ≡ nameIn a) ⊎ (j ≡ nameIn b)
-    either j (inl q) = inl (q ∙ sym e)
-    either j (inr m) = go (List·Memᴰ·cases-cons m)
-      where
-        go : (j ≡ l) ⊎ List·Memᴰ j [] → (j ≡ nameIn a) ⊎ (j ≡ nameIn b)
-        go (inl q) = inr (q ∙ sym f)
-        go (inr n) = absurd (List·Memᴰ·not-nil n)
+two : (k l : Name) (a b : ℕ) → nameIn a ≡ k → nameIn b ≡ l → Gives 2 (k ∷ l ∷ []) a b
+two k l a b e f = record { names = ap₂ (λ (x y : Name). x ∷ y ∷ []) (sym e) (sym f); first = λ h. absurd (omega arith); second = λ h. absurd (omega arith) }
 
 -- the token of what is issued under number n names it
 names : (s : State) (c n : ℕ) (e : Entry) → c ≤ 3 → n < 1024 → nameIn (tokenOf c n (issue s n e)) ≡ nameOf n (issue s n e)
@@ -69,8 +46,8 @@ names s c n e a b =
 -- ---- every granted request
 
 module _ (m : ℕ) (s : State) (t : List ℕ) where
-  abbrev Given-by : Decision → Type 0
-  Given-by d = Gives (d .issued) (d .reply .first) (d .reply .second)
+  abbrev By : ℕ → Decision → Type 0
+  By n d = Gives n (d .issued) (d .reply .first) (d .reply .second)
 
   -- the token of what is issued under a number of the table, and under a new one
   module _ (c : ℕ) (e : Entry) (encoded : leb c 3 ≡ true) (most : leb (size t) mostEntries ≡ true) where
@@ -80,11 +57,13 @@ module _ (m : ℕ) (s : State) (t : List ℕ) where
     new : not (eqb (newNumber s t) 0) ≡ true → nameIn (tokenOf c (newNumber s t) (issue s (newNumber s t) e)) ≡ nameOf (newNumber s t) (issue s (newNumber s t) e)
     new h = old (newNumber s t) (lt-ltb (newNumber s t) (size t) (number-first s t (neqb-true (newNumber s t) 0 h) .inside))
 
-  granted-gives : (q : Request) (b : List ℕ) → Passed (checks m s t q b) → Given-by (grant m s t q b)
+  granted-gives : (q : Request) (b : List ℕ) → Passed (checks m s t q b) → By (places t q) (grant m s t q b)
   granted-gives (reset k0 k1 ν) b h = one (record { number = 0; tag = 0 }) 0 refl
   granted-gives (access w k u) b h = none
   granted-gives (create k u l x p c) b h =
-      by-cond Given-by (eqb l (at t (numberOf k) .length)) (λ e. one _ _ (new c _ (search) (search) (search))) (λ e. two _ _ _ _ (new c _ (search) (search) (search)) (old c _ (search) (search) (numberOf k) (search)))
+      by-cond (By (places t (create k u l x p c))) (eqb l (at t (numberOf k) .length))
+      (λ e. rw e (one _ _ (new c _ (search) (search) (search))))
+      (λ e. rw e (two _ _ _ _ (new c _ (search) (search) (search)) (old c _ (search) (search) (numberOf k) (search))))
   granted-gives (merge j k u c) b h = one _ _ (old c _ (search) (search) (numberOf j) (search))
   granted-gives (derive k o l p c) b h = one _ _ (new c _ (search) (search) (search))
   granted-gives (executeOnly k c) b h = one _ _ (new c _ (search) (search) (search))
@@ -96,6 +75,6 @@ module _ (m : ℕ) (s : State) (t : List ℕ) where
 
 pub given : Given
 unfolding Given
-given σ q =
-    let m = length (σ .memory) in
-    decided (Given-by m (σ .state) (σ .table)) m (σ .state) (σ .table) (q .request) (q .buffer) (granted-gives m (σ .state) (σ .table) (q .request) (q .buffer)) (λ r p told. none)
+given σ q ok =
+    let fine = accepted σ q ok in
+    rw (fine .1) (granted-gives (length (σ .memory)) (σ .state) (σ .table) (q .request) (q .buffer) (fine .0))
