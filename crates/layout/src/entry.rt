@@ -152,7 +152,7 @@ fn indirect_words(e: Entry) -> Words
 }
 
 // The words of an entry. A type above 2 has no layout here and gives those of a free entry.
-pub fn words_of(e: Entry) -> Words
+pub(crate) fn words_of(e: Entry) -> Words
     requires { ⌜ Fits e ⌝ }
     ensures { λ r. ⌜ wordsNumber r ≡ entryNumber e ⌝ }
 {

@@ -84,7 +84,7 @@ fn write_reply(part: &mut [u8], r: Reply)
 }
 
 // The answer is stored as 40 bytes, and its refusal handed back.
-pub fn write_answer(part: &mut [u8], answer: Answer) -> u64
+pub(crate) fn write_answer(part: &mut [u8], answer: Answer) -> u64
     requires { ⌜ length (now part) ≡ 40 ⌝ }
     ensures { λ r. ⌜ (r ≡ replyAs answer .refusal) × (now (part .exit) ≡ answerBytes (replyAs answer)) ⌝ }
 {

@@ -15,7 +15,7 @@ ghost use Rattle.northbridge.specs.Exported.{asked, carried, known, told
 ghost use Rattle.northbridge.specs.Meanings.{askedAs, left};
 
 // The request, if request, state and answer have their sizes.
-pub fn asked_of(request: &[u8], state: &[u8], answer: &[u8]) -> Asked
+pub(crate) fn asked_of(request: &[u8], state: &[u8], answer: &[u8]) -> Asked
     ensures { λ r. ⌜ askedAs r ≡ asked (now (request .entry)) (now (state .entry)) (now (answer .entry)) ⌝ }
 {
     if (request.len() == 64) & (state.len() == 32) & (answer.len() == 40) {
@@ -26,7 +26,7 @@ pub fn asked_of(request: &[u8], state: &[u8], answer: &[u8]) -> Asked
 }
 
 // A broken call: refusal 1, which an answer of 40 bytes tells.
-pub fn refuse(answer: &mut [u8]) -> u64
+pub(crate) fn refuse(answer: &mut [u8]) -> u64
     ensures { λ r. ⌜ (r ≡ 1) × (now (answer .exit) ≡ told (now (answer .entry))) ⌝ }
 {
     if answer.len() == 40 {
@@ -37,7 +37,7 @@ pub fn refuse(answer: &mut [u8]) -> u64
 }
 
 // One step of the machine, from the state's bytes to the answer's.
-pub fn carry_out(
+pub(crate) fn carry_out(
     request: Request,
     state: &mut [u8],
     table: &mut [u8],

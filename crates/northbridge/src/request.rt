@@ -66,7 +66,7 @@ fn pick(
 }
 
 // The request that 64 bytes hold.
-pub fn request_of(request: &[u8]) -> Asked
+pub(crate) fn request_of(request: &[u8]) -> Asked
     requires { ⌜ length (now request) ≡ 64 ⌝ }
     ensures { λ r. ⌜ askedAs r ≡ requestOf (now (request .entry)) ⌝ }
 {

@@ -8,7 +8,7 @@ ghost use Rattle.rulings.specs.Rulings.{issuerAs};
 ghost use Rattle.northbridge.specs.Exported.{stateBytes, stateOf};
 
 // The state that 32 bytes hold.
-pub fn read_state(part: &[u8]) -> Issuer
+pub(crate) fn read_state(part: &[u8]) -> Issuer
     requires { ⌜ length (now part) ≡ 32 ⌝ }
     ensures { λ r. ⌜ issuerAs r ≡ stateOf (now (part .entry)) ⌝ }
 {
@@ -21,7 +21,7 @@ pub fn read_state(part: &[u8]) -> Issuer
 }
 
 // The state is stored as 32 bytes.
-pub fn write_state(part: &mut [u8], s: Issuer)
+pub(crate) fn write_state(part: &mut [u8], s: Issuer)
     requires { ⌜ length (now part) ≡ 32 ⌝ }
     ensures { λ _. ⌜ now (part .exit) ≡ stateBytes (issuerAs s) ⌝ }
 {

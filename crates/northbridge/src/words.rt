@@ -9,7 +9,7 @@ ghost use Rattle.bits.specs.Bytes.{lowBytes};
 ghost use Rattle.bits.specs.SipHash.{word};
 
 // Word i.
-pub fn word_at(part: &[u8], i: usize) -> u64
+pub(crate) fn word_at(part: &[u8], i: usize) -> u64
     requires { ⌜ 8 * i + 8 ≤ length (now part) ⌝ }
     ensures { λ r. ⌜ r ≡ word (now (part .entry)) i ⌝ }
 {
@@ -19,7 +19,7 @@ pub fn word_at(part: &[u8], i: usize) -> u64
 }
 
 // Word i becomes w.
-pub fn put_word(part: &mut [u8], i: usize, w: u64)
+pub(crate) fn put_word(part: &mut [u8], i: usize, w: u64)
     requires { ⌜ 8 * i + 8 ≤ length (now part) ⌝ }
     ensures { λ _. ⌜ now (part .exit) ≡ putMid (8 * i) 8 (now (part .entry)) (lowBytes 8 w) ⌝ }
 {

@@ -20,7 +20,7 @@ ghost use Rattle.references.specs.Children.{Bearing, bearing, childVerdi
 ghost use Rattle.rulings.specs.Rulings.{handed, issuerAs};
 
 // Places 9 to 11, for a parent with such a count.
-pub fn allot_child(s: Issuer, table: &[u8], count: u16) -> Allotted
+pub(crate) fn allot_child(s: Issuer, table: &[u8], count: u16) -> Allotted
     requires { ⌜ Settled (now table) (s .last) (s .next) ⌝ }
     ensures { λ r. ⌜ Allots (issuerAs s) (now (table .entry)) r (childVerdict (issuerAs s) (now (table .entry)) count) ⌝ }
 {
@@ -33,7 +33,7 @@ pub fn allot_child(s: Issuer, table: &[u8], count: u16) -> Allotted
 
 // A child of entry n under the new number, at an offset in the parent's segment. The parent's
 // count rises by one.
-pub fn grant_child(
+pub(crate) fn grant_child(
     mut s: Issuer,
     table: &mut [u8],
     n: usize,
