@@ -1,11 +1,13 @@
 //! Answers, as the five words of the interface, and typed.
 
+use crate::refusal::{Check, Place, Refusal};
+
 /// An answer as the interface gives it.
 #[derive(Clone, Copy, Debug, Default, PartialEq, Eq)]
 pub struct Reply {
-    /// 0 granted, else 1 to 11.
+    /// 0 granted, else the number of a check.
     pub refusal: u64,
-    /// Of refusals 3 and 4: 1 the named entry, 2 an ancestor; else 0.
+    /// A place's number if the refusal tells one, else 0.
     pub place: u64,
     pub first: u64,
     pub second: u64,
@@ -21,55 +23,24 @@ pub struct Granted {
     pub dropped: u64,
 }
 
-/// Which entry was the bad one.
-#[derive(Clone, Copy, Debug, PartialEq, Eq)]
-pub enum Place {
-    Named,
-    Ancestor,
-}
-
-/// Why a request was refused.
-#[derive(Clone, Copy, Debug, PartialEq, Eq)]
-pub enum Refusal {
-    Request,
-    Entry,
-    IllFormed(Place),
-    Dead(Place),
-    Lock,
-    Kind,
-    Right,
-    Bounds,
-    Standing,
-    Numbers,
-    Nonces,
-}
-
 impl Reply {
+    pub const WORDS: usize = 5;
+
+    pub fn in_order(&self) -> [u64; Reply::WORDS] {
+        [self.refusal, self.place, self.first, self.second, self.dropped]
+    }
+
+    pub fn from_order(words: [u64; Reply::WORDS]) -> Reply {
+        let [refusal, place, first, second, dropped] = words;
+        Reply { refusal, place, first, second, dropped }
+    }
+
     /// The answer, typed; none if the words are no answer of the interface.
     pub fn typed(&self) -> Option<Result<Granted, Refusal>> {
-        let place = match self.place {
-            1 => Some(Place::Named),
-            2 => Some(Place::Ancestor),
-            _ => None,
-        };
-        let refusal = match (self.refusal, place) {
-            (0, None) => {
-                let Reply { first, second, dropped, .. } = *self;
-                return Some(Ok(Granted { first, second, dropped }));
-            }
-            (1, None) => Refusal::Request,
-            (2, None) => Refusal::Entry,
-            (3, Some(place)) => Refusal::IllFormed(place),
-            (4, Some(place)) => Refusal::Dead(place),
-            (5, None) => Refusal::Lock,
-            (6, None) => Refusal::Kind,
-            (7, None) => Refusal::Right,
-            (8, None) => Refusal::Bounds,
-            (9, None) => Refusal::Standing,
-            (10, None) => Refusal::Numbers,
-            (11, None) => Refusal::Nonces,
-            _ => return None,
-        };
-        Some(Err(refusal))
+        let Reply { refusal, place, first, second, dropped } = *self;
+        match (refusal, Place::of(place)) {
+            (0, None) => Some(Ok(Granted { first, second, dropped })),
+            (refusal, place) => Check::of(refusal)?.refusal(place).map(Err),
+        }
     }
 }

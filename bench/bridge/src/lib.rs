@@ -17,18 +17,25 @@
 //! ```
 
 mod answer;
+mod bytes;
+mod operation;
+mod refusal;
 mod request;
+mod state;
+mod words;
 
-pub use answer::{Granted, Place, Refusal, Reply};
-pub use request::{Operation, Request, Words};
+pub use answer::{Granted, Reply};
+pub use bytes::{put_words, words_of};
+pub use operation::{Buffer, Operation};
+pub use refusal::{refusal_words, Check, Place, Refusal};
+pub use request::Request;
+pub use state::State;
+pub use words::{Argument, Words};
 
-/// The key, the last number given and the next nonce.
-#[derive(Clone, Copy, Debug, Default, PartialEq, Eq)]
-pub struct State {
-    pub key: [u64; 2],
-    pub last_number: u64,
-    pub next_nonce: u64,
-}
+/// How many bytes the interface's request, state and answer have.
+pub const REQUEST_BYTES: usize = 8 * Words::COUNT;
+pub const STATE_BYTES: usize = 8 * State::WORDS;
+pub const ANSWER_BYTES: usize = 8 * Reply::WORDS;
 
 /// A northbridge over a table and a memory that are lent to it.
 pub struct Northbridge<'a> {
@@ -70,15 +77,13 @@ pub fn serve(
     memory: &mut [u8],
     buffer: &mut [u8],
 ) -> Reply {
-    let request: [u8; 64] = bytes(&request.in_order());
-    let State { key: [key0, key1], last_number, next_nonce } = *state;
-    let mut lent: [u8; 32] = bytes(&[key0, key1, last_number, next_nonce]);
-    let mut answer = [0; 40];
-    call(&request, &mut lent, table, memory, buffer, &mut answer);
-    let [key0, key1, last_number, next_nonce] = words(&lent);
-    *state = State { key: [key0, key1], last_number, next_nonce };
-    let [refusal, place, first, second, dropped] = words(&answer);
-    Reply { refusal, place, first, second, dropped }
+    let (mut asked, mut lent) = ([0; REQUEST_BYTES], [0; STATE_BYTES]);
+    put_words(&mut asked, &request.in_order());
+    put_words(&mut lent, &state.in_order());
+    let mut answer = [0; ANSWER_BYTES];
+    call(&asked, &mut lent, table, memory, buffer, &mut answer);
+    *state = State::from_order(words_of(&lent));
+    Reply::from_order(words_of(&answer))
 }
 
 /// The interface's function over slices of any lengths. It returns the refusal.
@@ -124,22 +129,4 @@ extern "C" {
         answer: *mut u8,
         answer_length: usize,
     ) -> u64;
-}
-
-/// Words as bytes, the low byte first.
-fn bytes<const N: usize>(words: &[u64]) -> [u8; N] {
-    let mut bytes = [0; N];
-    for (part, word) in bytes.chunks_exact_mut(8).zip(words) {
-        part.copy_from_slice(&word.to_le_bytes());
-    }
-    bytes
-}
-
-/// Bytes as words, the low byte first.
-fn words<const N: usize>(bytes: &[u8]) -> [u64; N] {
-    let mut words = [0; N];
-    for (word, part) in words.iter_mut().zip(bytes.chunks_exact(8)) {
-        *word = part.iter().rev().fold(0, |word, byte| word << 8 | u64::from(*byte));
-    }
-    words
 }

@@ -139,7 +139,7 @@ impl Simulator {
         self.send_all(request, &lines[..first])?;
         let answer = self.receive()?;
         if !answer.starts_with("answer ") {
-            return Err(malformed(&answer, "expected answer, nine words and a buffer"));
+            return Err(malformed(&answer, protocol::ANSWER));
         }
         let mut shown = std::mem::replace(&mut self.shown, World::zeros(0, 0));
         let World { table, memory, .. } = &mut shown;
@@ -290,11 +290,10 @@ impl Machine for Simulator {
         self.shown.state = world.state;
         replace(&mut self.shown.table, &world.table);
         replace(&mut self.shown.memory, &world.memory);
-        let State { key: [key0, key1], last_number, next_nonce } = world.state;
         let lengths = [world.table.len() as u64, world.memory.len() as u64];
         let mut line = b"world".to_vec();
         protocol::write_numbers(&mut line, &lengths);
-        protocol::write_numbers(&mut line, &[key0, key1, last_number, next_nonce]);
+        protocol::write_numbers(&mut line, &world.state.in_order());
         let begun = self
             .send(&line)
             .and_then(|()| self.expect("ok"))
@@ -327,15 +326,14 @@ impl Machine for Simulator {
 impl Simulator {
     fn read_answer(&mut self, line: &str, buffer: &mut [u8]) -> Result<Reply, Trouble> {
         let read = protocol::parse_answer(line);
-        let (words, bytes) = read.map_err(|expected| malformed(line, &expected))?;
+        let (reply, state, bytes) = read.map_err(|expected| malformed(line, &expected))?;
         if bytes.len() != buffer.len() {
             let expected = format!("expected a buffer of {} bytes", buffer.len());
             return Err(malformed(line, &expected));
         }
         buffer.copy_from_slice(&bytes);
-        let [refusal, place, first, second, dropped, key0, key1, last_number, next_nonce] = words;
-        self.shown.state = State { key: [key0, key1], last_number, next_nonce };
-        Ok(Reply { refusal, place, first, second, dropped })
+        self.shown.state = state;
+        Ok(reply)
     }
 
     /// After trouble the lines may be out of step, so that the program is ended; the next session

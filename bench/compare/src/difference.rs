@@ -45,11 +45,6 @@ fn reply(f: &mut fmt::Formatter<'_>, reply: &Reply) -> fmt::Result {
     write!(f, "refusal {refusal} place {place} tokens {first:x} {second:x} dropped {dropped}")
 }
 
-fn state(f: &mut fmt::Formatter<'_>, state: &State) -> fmt::Result {
-    let State { key: [key0, key1], last_number, next_nonce } = state;
-    write!(f, "key {key0:x} {key1:x} last number {last_number} next nonce {next_nonce}")
-}
-
 impl fmt::Display for Difference {
     fn fmt(&self, f: &mut fmt::Formatter<'_>) -> fmt::Result {
         match self {
@@ -60,10 +55,7 @@ impl fmt::Display for Difference {
                 reply(f, theirs)
             }
             Difference::State([mine, theirs]) => {
-                write!(f, "the states differ\n  proved code: ")?;
-                state(f, mine)?;
-                write!(f, "\n  the other:   ")?;
-                state(f, theirs)
+                write!(f, "the states differ\n  proved code: {mine}\n  the other:   {theirs}")
             }
             Difference::Byte { part, at, values: [mine, theirs] } => {
                 write!(f, "byte {at} of the {part} differs")?;

@@ -1,7 +1,7 @@
 //! A session as the shrinker holds it: tokens that an earlier request gave are held as such, so that
 //! they stay right when the requests before them change.
 
-use bridge::{Operation, Reply, Words};
+use bridge::{Argument, Operation, Reply, Words};
 use session::{Session, Step, World};
 
 use crate::entry;
@@ -44,11 +44,11 @@ impl Draft {
         let mut parts = Vec::new();
         for (name, step) in session.steps.iter().enumerate() {
             let Step { request, buffer } = step.clone();
-            let token = source(&replies, request.operation, request.token);
-            let second = match Operation::of(request.operation) {
-                Some(Operation::Merge) => source(&replies, request.operation, request.second),
-                _ => Source::Word,
-            };
+            let operation = Operation::of(request.operation);
+            let one = operation.is_none_or(Operation::names_entry);
+            let two = operation.is_some_and(|operation| operation.takes(Argument::SecondToken));
+            let token = if one { source(&replies, request.token) } else { Source::Word };
+            let second = if two { source(&replies, request.second) } else { Source::Word };
             parts.push(Part { name, request, buffer, token, second });
             let reply = world.serve(&request, &mut step.buffer.clone());
             replies.push((name, reply));
@@ -104,9 +104,9 @@ impl Source {
 }
 
 /// The latest request that gave a token of this number and tag, or of a tag with one bit flipped.
-fn source(replies: &Replies, operation: u64, word: u64) -> Source {
+fn source(replies: &Replies, word: u64) -> Source {
     let [encoding, tag, number, offset] = entry::unpack(word);
-    if operation == Operation::Reset as u64 || (tag, number) == (0, 0) {
+    if (tag, number) == (0, 0) {
         return Source::Word;
     }
     for (name, reply) in replies.iter().rev() {

@@ -3,7 +3,7 @@
 
 use std::fmt;
 
-use bridge::{Operation, Reply, State, Words};
+use bridge::{Check, Operation, Place, Reply, State, Words};
 
 use crate::entry::{self, Entry};
 use crate::machine::Machine;
@@ -59,11 +59,12 @@ impl Events {
         machine: &dyn Machine,
     ) {
         let seen = Seen { request, reply, before, after: machine.state(), root_before, machine };
-        match Operation::of(request.operation) {
+        let operation = Operation::of(request.operation);
+        if operation.is_some_and(Operation::gives_number) {
+            self.given(&seen);
+        }
+        match operation {
             Some(Operation::Revoke) => self.revoke(&seen),
-            Some(Operation::Create | Operation::Derive | Operation::ExecuteOnly) => {
-                self.given(&seen);
-            }
             Some(Operation::Clone) => self.add(Event::CountAtTop, seen.count_at_top()),
             Some(Operation::Read) => {
                 self.add(Event::LinkRefusedByNonce, seen.link_refused_by_nonce());
@@ -71,12 +72,13 @@ impl Events {
             }
             _ => {}
         }
-        let memory = (reply.refusal, machine.memory().len());
-        self.add(Event::LargestMemory, memory == (0, 1 << 24));
-        self.add(Event::TooMuchMemory, memory == (1, (1 << 24) + 1));
-        let table = (reply.refusal, machine.table().len());
-        self.add(Event::LargestTable, table == (0, 1_024 * entry::SIZE));
-        self.add(Event::TooManyEntries, table == (1, 1_025 * entry::SIZE));
+        let (granted, refused) = (reply.refusal == 0, reply.refusal == Check::Request as u64);
+        let memory = machine.memory().len();
+        self.add(Event::LargestMemory, granted && memory == 1 << 24);
+        self.add(Event::TooMuchMemory, refused && memory == (1 << 24) + 1);
+        let table = machine.table().len();
+        self.add(Event::LargestTable, granted && table == 1_024 * entry::SIZE);
+        self.add(Event::TooManyEntries, refused && table == 1_025 * entry::SIZE);
     }
 
     fn add(&mut self, event: Event, seen: bool) {
@@ -88,7 +90,7 @@ impl Events {
         self.add(Event::PassedOne, used == 2);
         self.add(Event::PassedTwo, used == 3);
         let left = seen.before.next_nonce < SPENT;
-        self.add(Event::RefusedByPassing, seen.reply.refusal == 11 && left);
+        self.add(Event::RefusedByPassing, seen.reply.refusal == Check::Nonces as u64 && left);
     }
 
     fn given(&mut self, seen: &Seen) {
@@ -138,7 +140,8 @@ impl Seen<'_> {
 
     /// The named entry's parent is there with the tag that the link names.
     fn link_refused_by_nonce(&self) -> bool {
-        if (self.reply.refusal, self.reply.place) != (4, 1) {
+        let named = (Check::Dead as u64, Place::Named as u64);
+        if (self.reply.refusal, self.reply.place) != named {
             return false;
         }
         let [_, tag, number, _] = entry::unpack(self.entry(self.named()).get(entry::PARENT));

@@ -6,7 +6,7 @@ use std::io;
 use std::ptr::null_mut;
 use std::str::FromStr;
 
-use bridge::{Reply, State, Words};
+use bridge::{words_of, Reply, State, Words};
 use session::World;
 
 use crate::machine::{Machine, Trouble};
@@ -178,20 +178,9 @@ impl Guarded {
     }
 }
 
-/// Words as bytes, the low byte first.
 fn put_words(area: &mut Area, words: &[u64]) {
     area.resize(8 * words.len());
-    for (part, word) in area.bytes_mut().chunks_exact_mut(8).zip(words) {
-        part.copy_from_slice(&word.to_le_bytes());
-    }
-}
-
-fn words<const N: usize>(area: &Area) -> [u64; N] {
-    let mut words = [0; N];
-    for (word, part) in words.iter_mut().zip(area.bytes().chunks_exact(8)) {
-        *word = part.iter().rev().fold(0, |word, byte| word << 8 | u64::from(*byte));
-    }
-    words
+    bridge::put_words(area.bytes_mut(), words);
 }
 
 impl Machine for Guarded {
@@ -200,8 +189,7 @@ impl Machine for Guarded {
     }
 
     fn begin(&mut self, world: &World) -> Result<(), Trouble> {
-        let State { key: [key0, key1], last_number, next_nonce } = world.state;
-        put_words(&mut self.state, &[key0, key1, last_number, next_nonce]);
+        put_words(&mut self.state, &world.state.in_order());
         self.table.put(&world.table);
         self.memory.put(&world.memory);
         Ok(())
@@ -209,21 +197,20 @@ impl Machine for Guarded {
 
     fn serve(&mut self, request: &Words, buffer: &mut [u8]) -> Result<Reply, Trouble> {
         put_words(&mut self.request, &request.in_order());
-        put_words(&mut self.answer, &[u64::MAX; 5]);
+        put_words(&mut self.answer, &[u64::MAX; Reply::WORDS]);
         self.buffer.put(buffer);
         let returned = self.call_as_it_stands();
         buffer.copy_from_slice(self.buffer.bytes());
-        let [refusal, place, first, second, dropped] = words(&self.answer);
-        if refusal != returned {
-            let message = format!("returned {returned}, but the answer says {refusal}");
+        let reply = Reply::from_order(words_of(self.answer.bytes()));
+        if reply.refusal != returned {
+            let message = format!("returned {returned}, but the answer says {}", reply.refusal);
             return Err(Trouble::Broken(message));
         }
-        Ok(Reply { refusal, place, first, second, dropped })
+        Ok(reply)
     }
 
     fn state(&self) -> State {
-        let [key0, key1, last_number, next_nonce] = words(&self.state);
-        State { key: [key0, key1], last_number, next_nonce }
+        State::from_order(words_of(self.state.bytes()))
     }
 
     fn table(&self) -> &[u8] {

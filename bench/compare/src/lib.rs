@@ -25,7 +25,7 @@ mod wild;
 mod worlds;
 
 pub use command::Simulator;
-pub use coverage::{possible, Coverage, CASES, OPERATIONS};
+pub use coverage::{cases, possible, Case, Coverage, OPERATIONS};
 pub use difference::Difference;
 pub use guard::{Guard, Guarded};
 pub use kinds::{Kind, ALL as KINDS};

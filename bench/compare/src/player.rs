@@ -4,7 +4,7 @@
 
 use std::fmt;
 
-use bridge::{Operation, Reply, Words};
+use bridge::{Check, Operation, Reply, Words};
 use session::{Session, Step, World};
 
 use crate::coverage::Coverage;
@@ -34,36 +34,8 @@ pub struct Player<'a> {
 }
 
 /// What a player answers once it has stopped.
-const STOPPED: Reply = Reply { refusal: 1, place: 0, first: 0, second: 0, dropped: 0 };
-
-/// For each operation, which of the words after the first it uses: token, second, task, length,
-/// user, permissions, encoding.
-const USED: [[bool; 7]; 13] = [
-    used("ts#...."),
-    used("t.#...."),
-    used("t.#...."),
-    used("t.#...."),
-    used("t.#lupe"),
-    used("ts#...e"),
-    used("ts.l.pe"),
-    used("t.....e"),
-    used("t......"),
-    used("t......"),
-    used("t.#...."),
-    used("t.#...."),
-    used("t.....e"),
-];
-
-const fn used(marks: &str) -> [bool; 7] {
-    let marks = marks.as_bytes();
-    let mut used = [false; 7];
-    let mut at = 0;
-    while at < used.len() {
-        used[at] = marks[at] != b'.';
-        at += 1;
-    }
-    used
-}
+const STOPPED: Reply =
+    Reply { refusal: Check::Request as u64, place: 0, first: 0, second: 0, dropped: 0 };
 
 impl<'a> Player<'a> {
     /// A player that asks at most `left` requests.
@@ -133,8 +105,8 @@ impl<'a> Player<'a> {
     }
 
     fn keep(&mut self, operation: u64, reply: &Reply) {
-        let gives = matches!(operation, 4..=7 | 12) && reply.refusal == 0;
-        if !gives {
+        let issues = Operation::of(operation).is_some_and(Operation::issues);
+        if !issues || reply.refusal != 0 {
             return;
         }
         self.given.push(reply.first);
@@ -144,14 +116,14 @@ impl<'a> Player<'a> {
     }
 
     fn with_rubbish(&mut self, request: Words) -> Words {
-        let mut words = request.in_order();
-        let Some(used) = USED.get(request.operation as usize) else {
+        let mut words = request;
+        let Some(operation) = Operation::of(request.operation) else {
             return request;
         };
-        for (word, _) in words[1..].iter_mut().zip(used).filter(|(_, used)| !**used) {
-            *word = self.dice.word();
+        for place in (1..Words::COUNT).filter(|place| !operation.uses(*place)) {
+            *words.at(place) = self.dice.word();
         }
-        Words::from_order(words)
+        words
     }
 
     // What stands now.

@@ -19,6 +19,8 @@
 //! sends has more than 8,192 bytes in it, and it asks for no more in one line. A simulator flushes
 //! its output after each answer and ends at the end of its input.
 
+use bridge::{Reply, State, Words};
+
 /// The first line, and its answer.
 pub const GREETING: &str = "northbridge 1";
 
@@ -29,9 +31,9 @@ pub const PIECE: usize = 8_192;
 #[derive(Clone, Debug, PartialEq, Eq)]
 pub enum Line {
     Greeting,
-    World { table: usize, memory: usize, state: [u64; 4] },
+    World { table: usize, memory: usize, state: State },
     Put { part: Name, at: usize, bytes: Vec<u8> },
-    Serve { words: [u64; 8], buffer: Vec<u8> },
+    Serve { words: Words, buffer: Vec<u8> },
     Show { part: Name, at: usize, length: usize },
 }
 
@@ -50,7 +52,8 @@ pub fn parse(line: &str) -> Result<Line, String> {
         ["table", at, text] => put(Name::Table, at, text),
         ["memory", at, text] => put(Name::Memory, at, text),
         ["serve", ref rest @ .., buffer] => {
-            Ok(Line::Serve { words: numbers(rest)?, buffer: bytes(buffer)? })
+            let words = Words::from_order(numbers(rest)?);
+            Ok(Line::Serve { words, buffer: bytes(buffer)? })
         }
         ["show-table", at, length] => show(Name::Table, at, length),
         ["show-memory", at, length] => show(Name::Memory, at, length),
@@ -76,9 +79,9 @@ fn greeting(words: &[&str]) -> Result<Line, String> {
 }
 
 fn world(words: &[&str]) -> Result<Line, String> {
-    let [table, memory, key0, key1, last, next] = numbers(words)?;
+    let [table, memory, state @ ..] = numbers::<{ 2 + State::WORDS }>(words)?;
     let (table, memory) = (length(table)?, length(memory)?);
-    Ok(Line::World { table, memory, state: [key0, key1, last, next] })
+    Ok(Line::World { table, memory, state: State::from_order(state) })
 }
 
 /// A table or a memory that is a little too long is served; one that fills the machine is not.
@@ -95,13 +98,19 @@ fn show(part: Name, at: &str, wanted: &str) -> Result<Line, String> {
     Ok(Line::Show { part, at: length(number(at)?)?, length: length(number(wanted)?)? })
 }
 
-/// The numbers and the buffer of an answer.
-pub fn parse_answer(line: &str) -> Result<([u64; 9], Vec<u8>), String> {
+/// What is expected of an answer.
+pub const ANSWER: &str = "expected answer, nine words and a buffer";
+
+/// The reply, the state and the buffer of an answer.
+pub fn parse_answer(line: &str) -> Result<(Reply, State, Vec<u8>), String> {
     let words: Vec<&str> = line.split_whitespace().collect();
-    match words[..] {
-        ["answer", ref rest @ .., buffer] => Ok((numbers(rest)?, bytes(buffer)?)),
-        _ => Err("expected answer, nine words and a buffer".to_string()),
-    }
+    let ["answer", ref rest @ .., buffer] = words[..] else {
+        return Err(ANSWER.to_string());
+    };
+    let numbers: [u64; Reply::WORDS + State::WORDS] = numbers(rest)?;
+    let reply = std::array::from_fn(|at| numbers[at]);
+    let state = std::array::from_fn(|at| numbers[Reply::WORDS + at]);
+    Ok((Reply::from_order(reply), State::from_order(state), bytes(buffer)?))
 }
 
 /// The bytes of an answer, which must be as many as the place has.
@@ -198,13 +207,13 @@ mod tests {
 
     #[test]
     fn lines_are_read() {
-        let state = [1, 2, 3, 4];
+        let state = State::from_order([1, 2, 3, 4]);
         assert_eq!(parse("northbridge 1"), Ok(Line::Greeting));
         let world = Line::World { table: 64, memory: 16, state };
         assert_eq!(parse("world 40 10 1 2 3 4"), Ok(world));
         let put = Line::Put { part: Name::Memory, at: 10, bytes: vec![0xAB, 0] };
         assert_eq!(parse("memory a Ab00"), Ok(put));
-        let words = [1, 0, 0, 0, 0, 0, 0, u64::MAX];
+        let words = Words::from_order([1, 0, 0, 0, 0, 0, 0, u64::MAX]);
         let serve = Line::Serve { words, buffer: vec![] };
         assert_eq!(parse("serve 1 0 0 0 0 0 0 ffffffffffffffff -"), Ok(serve));
         let show = Line::Show { part: Name::Table, at: 0, length: 32 };

@@ -2,7 +2,7 @@
 
 use std::io::{self, BufRead, Write};
 
-use bridge::{State, Words};
+use bridge::Words;
 use session::World;
 
 use crate::protocol::{self, Line, Name, GREETING};
@@ -31,9 +31,9 @@ pub fn serve(mut input: impl BufRead, mut output: impl Write) -> io::Result<()> 
 fn respond(world: &mut World, line: &str, answer: &mut Vec<u8>) -> Result<(), String> {
     match protocol::parse(line)? {
         Line::Greeting => answer.extend_from_slice(GREETING.as_bytes()),
-        Line::World { table, memory, state: [key0, key1, last_number, next_nonce] } => {
+        Line::World { table, memory, state } => {
             *world = World::zeros(table, memory);
-            world.state = State { key: [key0, key1], last_number, next_nonce };
+            world.state = state;
             answer.extend_from_slice(b"ok");
         }
         Line::Put { part, at, bytes } => {
@@ -41,7 +41,7 @@ fn respond(world: &mut World, line: &str, answer: &mut Vec<u8>) -> Result<(), St
             place.ok_or_else(outside)?.copy_from_slice(&bytes);
             answer.extend_from_slice(b"ok");
         }
-        Line::Serve { words, mut buffer } => ask(world, words, &mut buffer, answer),
+        Line::Serve { words, mut buffer } => ask(world, &words, &mut buffer, answer),
         Line::Show { part, at, length } => {
             let shown = place(world, part).get(at..at + length).ok_or_else(outside)?;
             answer.extend_from_slice(b"bytes");
@@ -62,12 +62,10 @@ fn outside() -> String {
     "expected a place inside the world's table or memory".to_string()
 }
 
-fn ask(world: &mut World, words: [u64; 8], buffer: &mut [u8], answer: &mut Vec<u8>) {
-    let reply = world.serve(&Words::from_order(words), buffer);
-    let bridge::Reply { refusal, place, first, second, dropped } = reply;
-    let State { key: [key0, key1], last_number, next_nonce } = world.state;
+fn ask(world: &mut World, words: &Words, buffer: &mut [u8], answer: &mut Vec<u8>) {
+    let reply = world.serve(words, buffer);
     answer.extend_from_slice(b"answer");
-    let words = [refusal, place, first, second, dropped, key0, key1, last_number, next_nonce];
-    protocol::write_numbers(answer, &words);
+    protocol::write_numbers(answer, &reply.in_order());
+    protocol::write_numbers(answer, &world.state.in_order());
     protocol::write_bytes(answer, buffer);
 }

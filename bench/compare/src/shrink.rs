@@ -160,14 +160,8 @@ impl Shrinker<'_> {
     }
 
     fn zero_state(&mut self) {
-        let places: [fn(&mut State) -> &mut u64; 4] = [
-            |state| &mut state.key[0],
-            |state| &mut state.key[1],
-            |state| &mut state.last_number,
-            |state| &mut state.next_nonce,
-        ];
-        for place in places {
-            self.lower(|draft| place(&mut draft.world.state));
+        for place in 0..State::WORDS {
+            self.lower(|draft| draft.world.state.at(place));
         }
     }
 
@@ -253,26 +247,16 @@ impl Shrinker<'_> {
 
     /// Each word that is a number, nearer to 0.
     fn simpler_numbers(&mut self, at: usize) {
-        let places: [fn(&mut Words) -> &mut u64; 8] = [
-            |words| &mut words.operation,
-            |words| &mut words.token,
-            |words| &mut words.second,
-            |words| &mut words.task,
-            |words| &mut words.length,
-            |words| &mut words.user,
-            |words| &mut words.permissions,
-            |words| &mut words.encoding,
-        ];
-        for (index, place) in places.into_iter().enumerate() {
+        for place in 0..Words::COUNT {
             let Some(part) = self.draft.parts.get(at) else {
                 return;
             };
             let sources = [Source::Word, part.token, part.second];
-            let number = sources.get(index).is_none_or(|source| *source == Source::Word);
+            let number = sources.get(place).is_none_or(|source| *source == Source::Word);
             // Another operation is another request, not a simpler one.
-            let known = index == 0 && Operation::of(part.request.operation).is_some();
+            let known = place == 0 && Operation::of(part.request.operation).is_some();
             if number && !known {
-                self.lower(|draft| place(&mut draft.parts[at].request));
+                self.lower(|draft| draft.parts[at].request.at(place));
             }
         }
     }

@@ -1,13 +1,13 @@
 //! Random requests over what stands now: mostly near to what can be granted, with each word now and
 //! then a little or far off.
 
-use bridge::{Operation, Words};
+use bridge::{Argument, Operation, Words};
 
 use crate::entry::{self, Entry};
 use crate::player::Player;
 
 /// How often each operation is asked.
-const WEIGHTS: [(Operation, u64); 13] = [
+const WEIGHTS: [(Operation, u64); Operation::COUNT] = [
     (Operation::Read, 16),
     (Operation::Write, 16),
     (Operation::Fetch, 8),
@@ -23,7 +23,21 @@ const WEIGHTS: [(Operation, u64); 13] = [
     (Operation::Reset, 1),
 ];
 
-const WEIGHT: u64 = 129;
+/// The arguments in the order in which they are chosen: an offset goes by the length.
+const ORDER: [Argument; Argument::ALL.len()] = [
+    Argument::Address,
+    Argument::Token,
+    Argument::User,
+    Argument::SecondToken,
+    Argument::FirstNonce,
+    Argument::Key,
+    Argument::Task,
+    Argument::Holder,
+    Argument::Length,
+    Argument::Offset,
+    Argument::Permissions,
+    Argument::Encoding,
+];
 
 /// Tasks, those that differ in the bits from 55 on among them.
 pub const TASKS: [u64; 12] = [
@@ -53,7 +67,7 @@ pub fn play(player: &mut Player, requests: usize) {
 }
 
 fn operation(player: &mut Player) -> Operation {
-    let mut at = player.dice.below(WEIGHT);
+    let mut at = player.dice.below(WEIGHTS.iter().map(|(_, weight)| weight).sum());
     for (operation, weight) in WEIGHTS {
         if at < weight {
             return operation;
@@ -72,16 +86,18 @@ pub fn ask(player: &mut Player, operation: Operation) {
 /// Asks one random request of an operation, mostly through the entry of a number.
 pub fn ask_through(player: &mut Player, operation: Operation, number: usize) {
     let entry = player.entry(number);
-    match operation {
-        Operation::Read | Operation::Write | Operation::Fetch => {
-            access(player, operation, number, &entry);
-        }
-        _ => {
-            let words = words(player, operation, number, &entry);
-            let buffer = if player.dice.once_in(16) { player.dice.bytes(3) } else { Vec::new() };
-            player.ask_with(words, buffer);
-        }
+    if operation.is_access() {
+        return access(player, operation, number, &entry);
     }
+    let words = words(player, operation, number, &entry);
+    let buffer = if player.dice.once_in(16) { player.dice.bytes(3) } else { Vec::new() };
+    player.ask_with(words, buffer);
+}
+
+/// The operations that name an entry, but for accesses.
+pub fn others() -> Vec<Operation> {
+    let named = Operation::ALL.into_iter().filter(|operation| operation.names_entry());
+    named.filter(|operation| !operation.is_access()).collect()
 }
 
 /// A number in use, sought from a random one on; any number if none is near.
@@ -194,21 +210,28 @@ fn with_offset(player: &mut Player, token: u64, whole: u64, buffer: u64) -> u64 
 
 fn words(player: &mut Player, operation: Operation, number: usize, entry: &Entry) -> Words {
     let token = token(player, number, entry);
-    let words = Words { operation: operation as u64, token, ..Words::default() };
-    match operation {
-        Operation::Reset => reset(player, words),
-        Operation::Create => create(player, words, entry),
-        Operation::Merge => merge(player, words, entry),
-        Operation::Derive => derive(player, words, entry),
-        Operation::Lock | Operation::Unlock => Words { task: task(player), ..words },
-        Operation::ExecuteOnly | Operation::Revoke => Words { encoding: encoding(player), ..words },
-        _ => words,
+    let mut words = Words { operation: operation as u64, token, ..Words::default() };
+    for argument in ORDER.into_iter().filter(|argument| operation.takes(*argument)) {
+        choose(player, argument, entry, &mut words);
     }
+    words
 }
 
-fn reset(player: &mut Player, words: Words) -> Words {
-    let task = first_nonce(player);
-    Words { token: player.dice.word(), second: player.dice.word(), task, ..words }
+/// Chooses an argument of a request through an entry; its token is chosen.
+fn choose(player: &mut Player, argument: Argument, entry: &Entry, words: &mut Words) {
+    let whole = entry.length();
+    match argument {
+        Argument::Address | Argument::Token => {}
+        Argument::SecondToken => words.second = neighbour(player, entry),
+        Argument::Key => [words.token, words.second] = [player.dice.word(), player.dice.word()],
+        Argument::Offset => words.second = offset(player, whole, words.length),
+        Argument::Task | Argument::Holder => words.task = task(player),
+        Argument::FirstNonce => words.task = first_nonce(player),
+        Argument::Length => words.length = length(player, whole),
+        Argument::User => words.user = player.dice.word(),
+        Argument::Permissions => words.permissions = permissions(player, entry),
+        Argument::Encoding => words.encoding = encoding(player),
+    }
 }
 
 /// A first nonce: low, anywhere, near the end, or none.
@@ -221,16 +244,8 @@ pub fn first_nonce(player: &mut Player) -> u64 {
     }
 }
 
-fn create(player: &mut Player, words: Words, entry: &Entry) -> Words {
-    let user = player.dice.word();
-    let task = task(player);
-    let length = length(player, entry.length());
-    let permissions = permissions(player, entry);
-    Words { task, length, user, permissions, encoding: encoding(player), ..words }
-}
-
-/// The second token is mostly that of the neighbour behind.
-fn merge(player: &mut Player, words: Words, entry: &Entry) -> Words {
+/// A second token: mostly that of the neighbour behind.
+fn neighbour(player: &mut Player, entry: &Entry) -> u64 {
     let numbers = 0..player.entries();
     let behind = numbers.into_iter().find(|number| {
         let next = player.entry(*number);
@@ -241,16 +256,13 @@ fn merge(player: &mut Player, words: Words, entry: &Entry) -> Words {
         _ => used_number(player),
     };
     let second = player.entry(number);
-    let second = token(player, number, &second);
-    let task = task(player);
-    Words { second, task, encoding: encoding(player), ..words }
+    token(player, number, &second)
 }
 
-fn derive(player: &mut Player, words: Words, entry: &Entry) -> Words {
-    let whole = entry.length();
-    let length = length(player, whole);
+/// An offset for a part of a length: inside, at an end, beyond, or with a sum that wraps.
+fn offset(player: &mut Player, whole: u64, length: u64) -> u64 {
     let room = whole.saturating_sub(length);
-    let second = match player.dice.below(16) {
+    match player.dice.below(16) {
         0 => room,
         1 => player.dice.one_of(&[whole, 1 << 32, u64::MAX]),
         2 => 0u64.wrapping_sub(length),
@@ -258,7 +270,5 @@ fn derive(player: &mut Player, words: Words, entry: &Entry) -> Words {
         4 | 5 => room.saturating_sub(1),
         6..=8 => 0,
         _ => player.dice.below(room.max(1)),
-    };
-    let permissions = permissions(player, entry);
-    Words { second, length, permissions, encoding: encoding(player), ..words }
+    }
 }

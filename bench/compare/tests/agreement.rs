@@ -1,7 +1,7 @@
 //! The proved code and the model agree over bounded runs of every kind, and what 01 allows is
 //! reached.
 
-use compare::{possible, run, Coverage, Guard, Options, CASES, KINDS, OPERATIONS};
+use compare::{cases, possible, run, Coverage, Guard, Options, KINDS, OPERATIONS};
 
 fn options(requests: u64, seed: u64) -> Options {
     Options { requests, seed, ..Options::default() }
@@ -19,7 +19,7 @@ fn every_case_that_01_allows_is_reached_and_no_other() {
     let coverage = agreed(&options(300_000, 1));
     assert_eq!(coverage.missing(), Vec::<String>::new());
     for operation in 0..OPERATIONS as u64 {
-        for case in CASES.into_iter().filter(|case| !possible(operation, *case)) {
+        for case in cases().filter(|case| !possible(operation, *case)) {
             assert_eq!(coverage.reached(operation, case), 0, "operation {operation}, {case:?}");
         }
     }

@@ -220,15 +220,16 @@ fn refusal_of_model(world: &World, request: &Words, buffer: usize) -> u64 {
 #[cfg(test)]
 mod tests {
     use super::*;
+    use bridge::Check;
 
     #[test]
     fn each_refusal_and_each_operation_but_reset_is_met() {
         let refused = refused();
-        for number in 1..=11 {
-            assert!(refused.iter().any(|one| one.refusal == number), "refusal {number}");
+        for check in Check::all() {
+            assert!(refused.iter().any(|one| one.refusal == check as u64), "{check:?}");
         }
-        for operation in &Operation::ALL[1..] {
-            let number = *operation as u64;
+        for operation in Operation::ALL.into_iter().filter(|one| *one != Operation::Reset) {
+            let number = operation as u64;
             assert!(refused.iter().any(|one| one.request.operation == number), "{operation:?}");
         }
     }

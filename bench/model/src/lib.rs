@@ -55,7 +55,7 @@ pub struct State {
 
 #[derive(Clone, Copy, Debug, Default, PartialEq, Eq)]
 pub struct Answer {
-    /// 0 granted, else 1 to 11.
+    /// 0 granted, else the number of a refusal.
     pub refusal: u64,
     /// 0 none, 1 the named entry, 2 an ancestor.
     pub place: u64,

@@ -1,7 +1,7 @@
 //! An answer in words, on one line.
 
-use bridge::{Operation, Reply};
-use session::play::{refusal_words, Played};
+use bridge::{refusal_words, Buffer, Operation, Place, Reply};
+use session::play::Played;
 use session::text::{bytes_text, token_text, Ask};
 
 /// A buffer is shown up to this length.
@@ -23,11 +23,10 @@ pub fn answer_text(ask: &Ask, played: &Played) -> String {
 }
 
 fn place_text(place: u64) -> Option<String> {
-    match place {
-        0 => None,
-        1 => Some("the named entry".to_string()),
-        2 => Some("an ancestor".to_string()),
-        other => Some(format!("place {other}")),
+    match (place, Place::of(place)) {
+        (0, _) => None,
+        (_, Some(place)) => Some(place.words().to_string()),
+        (other, None) => Some(format!("place {other}")),
     }
 }
 
@@ -39,16 +38,17 @@ fn token_part(place: &str, name: Option<&str>, token: u64) -> Option<String> {
     }
 }
 
-/// Drop's number, or a number that should not be there.
+/// The number that the operation answers, or one that should not be there.
 fn number_text(operation: u64, reply: &Reply) -> Option<String> {
-    let dropped = operation == Operation::Drop as u64 && reply.refusal == 0;
-    (dropped || reply.dropped != 0).then(|| format!("number {}", reply.dropped))
+    let answers = Operation::of(operation).is_some_and(Operation::answers_number);
+    (answers && reply.refusal == 0 || reply.dropped != 0)
+        .then(|| format!("number {}", reply.dropped))
 }
 
-/// What a read or a fetch gave, if it is short.
+/// What the buffer was filled with, if it is short.
 fn buffer_text(ask: &Ask, played: &Played) -> Option<String> {
     let operation = Operation::of(played.request.operation);
-    let filled = matches!(operation, Some(Operation::Read | Operation::Fetch));
+    let filled = operation.is_some_and(|operation| operation.buffer() == Buffer::Filled);
     let given = filled && played.reply.refusal == 0 || played.buffer != ask.buffer;
     let text = match played.buffer.len() {
         0..=SHORT => format!("buffer {}", bytes_text(&played.buffer)),

@@ -5,7 +5,7 @@ use std::collections::BTreeSet;
 use std::fs;
 use std::path::PathBuf;
 
-use bridge::Operation;
+use compare::{cases, possible, OPERATIONS};
 use nb_tool::commands::recorded;
 use nb_tool::model_server::Model;
 use nb_tool::stored::{self, Stored};
@@ -76,38 +76,19 @@ fn answers<S: Server>(server: &mut S) -> BTreeSet<Answer> {
         for ask in &script.asks {
             let played = player.play(ask).expect("every name is given");
             let reply = played.reply;
-            answers.insert((played.request.operation.min(13), reply.refusal, reply.place));
+            let row = played.request.operation.min(OPERATIONS as u64 - 1);
+            answers.insert((row, reply.refusal, reply.place));
         }
     }
     answers
 }
 
-/// The refusals that paper 01 leaves possible for each operation; 3 and 4 come with both places.
-fn possible(operation: u64) -> &'static [u64] {
-    match Operation::of(operation) {
-        None => &[1],
-        Some(Operation::Reset) => &[0, 1],
-        Some(Operation::Read | Operation::Write | Operation::Fetch) => &[0, 1, 2, 3, 4, 5, 7, 8],
-        Some(Operation::Create) => &[0, 1, 2, 3, 4, 5, 6, 7, 8, 9, 10, 11],
-        Some(Operation::Merge) => &[0, 1, 2, 3, 4, 5, 6, 8, 9, 11],
-        Some(Operation::Derive) => &[0, 1, 2, 3, 4, 7, 8, 9, 10, 11],
-        Some(Operation::ExecuteOnly) => &[0, 1, 2, 3, 4, 7, 9, 10, 11],
-        Some(Operation::Clone) => &[0, 1, 2, 3, 4, 9],
-        Some(Operation::Drop) => &[0, 1, 2, 3, 9],
-        Some(Operation::Lock) => &[0, 1, 2, 3, 4, 5, 7],
-        Some(Operation::Unlock) => &[0, 1, 2, 3, 4, 5, 9],
-        Some(Operation::Revoke) => &[0, 1, 2, 3, 4, 6, 11],
-    }
-}
-
+/// The answers that paper 01 leaves possible.
 fn all_possible() -> BTreeSet<Answer> {
-    let places = |refusal: u64| if matches!(refusal, 3 | 4) { 1..3 } else { 0..1 };
-    (0..=13)
-        .flat_map(|operation| possible(operation).iter().map(move |refusal| (operation, *refusal)))
-        .flat_map(|(operation, refusal)| {
-            places(refusal).map(move |place| (operation, refusal, place))
-        })
-        .collect()
+    let rows = 0..OPERATIONS as u64;
+    let pairs = rows.flat_map(|operation| cases().map(move |case| (operation, case)));
+    let possible = pairs.filter(|(operation, case)| possible(*operation, *case));
+    possible.map(|(operation, (refusal, place))| (operation, refusal, place)).collect()
 }
 
 #[test]

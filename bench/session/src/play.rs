@@ -5,7 +5,7 @@ use crate::text::{
     Unresolved, Word,
 };
 use crate::{entry, World};
-use bridge::{Reply, Words};
+use bridge::{refusal_words, Place, Reply, Words};
 
 /// Whoever serves requests: the proved code, the model, a simulator.
 pub trait Server {
@@ -145,34 +145,18 @@ impl<'a, S: Server> Player<'a, S> {
     }
 }
 
+fn place_text(place: u64) -> String {
+    Place::of(place).map_or_else(|| place.to_string(), |place| place.words().to_string())
+}
+
 fn word_text(what: &str, word: u64) -> String {
     match (what, word) {
-        ("place", 1) => "the named entry".to_string(),
-        ("place", 2) => "an ancestor".to_string(),
         ("place", 0) => "none".to_string(),
+        ("place", _) => place_text(word),
         ("refusal", _) => format!("{word} ({})", refusal_words(word)),
         ("first token" | "second token", 0) => "0".to_string(),
         ("first token" | "second token", _) => token_text(word, 0),
         _ => word.to_string(),
-    }
-}
-
-/// What a refusal's number means.
-pub fn refusal_words(refusal: u64) -> &'static str {
-    match refusal {
-        0 => "granted",
-        1 => "bad request",
-        2 => "no such entry",
-        3 => "ill-formed",
-        4 => "dead line",
-        5 => "locked for another task",
-        6 => "not a direct entry",
-        7 => "right lacking",
-        8 => "out of bounds",
-        9 => "standing forbids it",
-        10 => "no free number",
-        11 => "too few nonces",
-        _ => "no refusal of the interface",
     }
 }
 

@@ -1,6 +1,7 @@
 //! What is printed is read again as the same session.
 
 mod common;
+use bridge::{Check, Operation};
 use common::Dice;
 use session::text::{parse, print, print_with};
 use session::{Session, World};
@@ -27,7 +28,7 @@ fn random_sessions_with_random_replies() {
         let session = dice.session();
         let replies: Vec<bridge::Reply> = (0..session.steps.len())
             .map(|_| bridge::Reply {
-                refusal: dice.below(2) * dice.below(12),
+                refusal: dice.below(2) * dice.below(Check::COUNT as u64 + 1),
                 place: dice.below(3),
                 first: dice.some_word(),
                 second: dice.some_word(),
@@ -49,7 +50,8 @@ fn sessions_as_served() {
         let (mut world, mut replies, mut tokens) = (session.world.clone(), Vec::new(), vec![0]);
         for at in 0..12 {
             let mut step = dice.step();
-            step.request.operation = if at == 0 { 0 } else { 1 + dice.below(12) };
+            step.request.operation =
+                if at == 0 { 0 } else { 1 + dice.below(Operation::COUNT as u64 - 1) };
             step.request.token = tokens[dice.below(tokens.len() as u64) as usize];
             step.request.second = tokens[dice.below(tokens.len() as u64) as usize];
             step.request.task = if at == 0 { 1 } else { 0 };

@@ -26,8 +26,10 @@ fn around(player: &mut Player, number: usize) {
     let token = player.token(number);
     player.read(token, 1, 7);
     let below = wild::used_number(player);
+    let through: Vec<Operation> =
+        Operation::ALL.into_iter().filter(|operation| operation.names_entry()).collect();
     for number in [number, below] {
-        let operation = player.dice.one_of(&Operation::ALL[1..]);
+        let operation = player.dice.one_of(&through);
         wild::ask_through(player, operation, number);
         wild::ask_through(player, Operation::Clone, number);
         wild::ask_through(player, Operation::Drop, number);

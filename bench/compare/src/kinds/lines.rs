@@ -95,7 +95,7 @@ fn some_requests(player: &mut Player, number: usize) {
         1 => player.write(token, 1, task),
         _ => player.fetch(token, 1, task),
     };
-    for operation in Operation::ALL.into_iter().skip(4) {
+    for operation in wild::others() {
         if player.dice.once_in(3) {
             wild::ask_through(player, operation, number);
         }

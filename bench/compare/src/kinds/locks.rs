@@ -49,7 +49,7 @@ fn round(player: &mut Player) {
         player.write(token, 1, task);
     }
     for _ in 0..4 {
-        let operation = player.dice.one_of(&Operation::ALL[4..]);
+        let operation = player.dice.one_of(&wild::others());
         wild::ask_through(player, operation, number);
     }
     player.simple(Operation::Drop, token);

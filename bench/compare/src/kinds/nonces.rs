@@ -31,14 +31,7 @@ fn hand_over(player: &mut Player, next_nonce: u64) {
 /// Each request that issues, through each number in use.
 fn each_issue(player: &mut Player) {
     for number in worlds::used(player) {
-        let issues = [
-            Operation::Create,
-            Operation::Merge,
-            Operation::Derive,
-            Operation::ExecuteOnly,
-            Operation::Revoke,
-        ];
-        for operation in issues {
+        for operation in Operation::ALL.into_iter().filter(|operation| operation.issues()) {
             wild::ask_through(player, operation, number);
         }
     }

@@ -1,6 +1,6 @@
 //! Random bytes for everything, and random words for requests.
 
-use bridge::{State, Words};
+use bridge::{Operation, State, Words};
 use session::World;
 
 use crate::entry;
@@ -31,8 +31,8 @@ fn state(player: &mut Player, entries: u64) -> State {
 }
 
 fn words(player: &mut Player) {
-    let mut words = [0; 8].map(|_: u8| player.dice.word() >> player.dice.below(64));
-    words[0] = player.dice.below(14);
+    let mut words = [0; Words::COUNT].map(|_: u8| player.dice.word() >> player.dice.below(64));
+    words[0] = player.dice.below(Operation::COUNT as u64 + 1);
     let length = player.dice.index(20);
     let buffer = player.dice.bytes(length);
     player.ask_with(Words::from_order(words), buffer);

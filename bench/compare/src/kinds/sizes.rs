@@ -31,7 +31,7 @@ pub fn play(player: &mut Player) {
 }
 
 fn every_operation(player: &mut Player) {
-    for operation in Operation::ALL.into_iter().skip(1) {
+    for operation in Operation::ALL.into_iter().filter(|operation| operation.names_entry()) {
         let number = usize::from(player.dice.once_in(2));
         wild::ask_through(player, operation, number);
     }

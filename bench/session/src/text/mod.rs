@@ -2,6 +2,7 @@
 //!
 //! docs/SESSIONS.md describes the format.
 
+mod arguments;
 mod bytes;
 mod change;
 mod cursor;

@@ -37,12 +37,8 @@ fn refusal(cursor: &mut Cursor) -> Result<u64, Error> {
 }
 
 fn place(cursor: &mut Cursor) -> Option<u64> {
-    let place = match cursor.peek()? {
-        "named" => 1,
-        "ancestor" => 2,
-        _ => return None,
-    };
-    cursor.next("").ok().map(|_| place)
+    let place = words::place_of(cursor.peek()?)?;
+    cursor.next("").ok().map(|_| place as u64)
 }
 
 fn result(

@@ -1,7 +1,9 @@
 //! A request's line.
 
 use std::collections::HashSet;
+use std::sync::LazyLock;
 
+use super::arguments;
 use super::bytes::{self, LIMIT};
 use super::cursor::Cursor;
 use super::error::Error;
@@ -11,13 +13,15 @@ use super::parse_standing::key;
 use super::script::{Ask, Word};
 use super::{comments, words, FILL};
 use crate::Step;
-use bridge::{Operation, Words};
+use bridge::{Argument, Buffer, Operation, Words};
 
-const REQUEST: &str = "a request: 'reset', 'read', 'write', 'fetch', 'create', 'merge', 'derive', \
-     'execute-only', 'clone', 'drop', 'lock', 'unlock', 'revoke' or 'operation', or '=' with what \
-     must stand after one";
-const TOKEN: &str = "a token: 'root', a name given before, '@NUMBER:TAG' or a number, with \
-     '/ENCODING' and '+OFFSET' behind if needed, each inside its width";
+/// What is expected where a request begins.
+static REQUEST: LazyLock<String> = LazyLock::new(|| {
+    let names: String =
+        Operation::ALL.iter().map(|operation| format!("'{}', ", operation.name())).collect();
+    let names = names.trim_end_matches(", ");
+    format!("a request: {names} or 'operation', or '=' with what must stand after one")
+});
 
 /// A request with what is expected of it.
 pub fn request(
@@ -31,7 +35,7 @@ pub fn request(
     let lengthless = transfer(cursor, &mut ask)?;
     ask.line = number;
     ask.comments = comments(line);
-    let given = arguments(cursor, names, &mut ask)?;
+    let given = named_arguments(cursor, names, &mut ask)?;
     if let Some(error) = lengthless.filter(|_| !given.contains("buffer")) {
         return Err(error);
     }
@@ -45,46 +49,46 @@ pub fn request(
 
 /// The operation and what stands behind it without a word of its own.
 fn operation(cursor: &mut Cursor, names: &HashSet<String>) -> Result<Ask, Error> {
-    let word = cursor.next(REQUEST)?;
-    let named = Operation::ALL.into_iter().find(|operation| operation.name() == word);
+    let word = cursor.next(&REQUEST)?;
+    let named = Operation::named(word);
     let number = match (named, word) {
         (Some(operation), _) => operation as u64,
         (None, "operation") => cursor.number("the operation's number")?,
-        _ => return Err(cursor.error_before(REQUEST)),
+        _ => return Err(cursor.error_before(&REQUEST)),
     };
     let words = Words { operation: number, ..Words::default() };
     let mut ask = Ask::of(&Step { request: words, buffer: Vec::new() });
     let Some(operation) = named else {
         return Ok(ask);
     };
-    if operation != Operation::Reset {
+    if operation.names_entry() {
         ask.token = token(cursor, names)?;
     }
-    if operation == Operation::Merge {
+    if operation.takes(Argument::SecondToken) {
         ask.second = token(cursor, names)?;
     }
     Ok(ask)
 }
 
-/// What an access transfers: a write's bytes, the length of a read or a fetch. Where no length
-/// stands, the error is handed back, for the case that no buffer is given either.
+/// What an operation transfers: the bytes that it is brought, the length of what it fills. Where no
+/// length stands, the error is handed back, for the case that no buffer is given either.
 fn transfer(cursor: &mut Cursor, ask: &mut Ask) -> Result<Option<Error>, Error> {
-    match Operation::of(ask.words.operation) {
-        Some(Operation::Write) => ask.buffer = bytes::read(cursor)?,
-        Some(Operation::Read | Operation::Fetch) => {
+    match Operation::of(ask.words.operation).map(Operation::buffer) {
+        Some(Buffer::Brought) => ask.buffer = bytes::read(cursor)?,
+        Some(Buffer::Filled) => {
             if cursor.peek().and_then(words::number).is_none() {
                 return Ok(Some(cursor.error("the number of bytes, or 'buffer' and the bytes")));
             }
             let length = cursor.up_to(LIMIT as u64, "the number of bytes")?;
             ask.buffer = vec![FILL; length as usize];
         }
-        _ => {}
+        Some(Buffer::Unused) | None => {}
     }
     Ok(None)
 }
 
 fn token(cursor: &mut Cursor, names: &HashSet<String>) -> Result<Word, Error> {
-    cursor.value(TOKEN, |word| {
+    cursor.value(arguments::expected(Argument::Token), |word| {
         words::token(word, 0).filter(|token| match token {
             Word::Name { name, .. } => names.contains(name),
             Word::Number(_) => true,
@@ -93,7 +97,7 @@ fn token(cursor: &mut Cursor, names: &HashSet<String>) -> Result<Word, Error> {
 }
 
 /// The words that are given by name, each once. Which they are is handed back.
-fn arguments<'a>(
+fn named_arguments<'a>(
     cursor: &mut Cursor<'a>,
     names: &HashSet<String>,
     ask: &mut Ask,
@@ -115,37 +119,39 @@ fn argument(
     names: &HashSet<String>,
     ask: &mut Ask,
 ) -> Result<(), Error> {
-    match (word, Operation::of(ask.words.operation)) {
-        ("key", Some(Operation::Reset)) => {
-            let [token, second] = key(cursor)?.map(Word::Number);
-            (ask.token, ask.second) = (token, second);
+    let operation = Operation::of(ask.words.operation);
+    match arguments::find(operation, word) {
+        Some(argument) => value(cursor, argument, names, ask),
+        None if word == "buffer" => {
+            ask.buffer = bytes::read(cursor)?;
+            Ok(())
         }
-        ("nonce", Some(Operation::Reset)) => ask.words.task = cursor.number("the first nonce")?,
-        ("offset", Some(Operation::Derive)) => {
-            ask.second = Word::Number(cursor.number("the offset")?);
+        None => {
+            let words = arguments::words(operation);
+            Err(cursor.error_before(&format!("{words}'buffer' or '->'")))
         }
-        ("token", _) => ask.token = token(cursor, names)?,
-        ("second", _) => ask.second = token(cursor, names)?,
-        ("task", _) => ask.words.task = cursor.number("a task")?,
-        ("length", _) => ask.words.length = cursor.number("a length")?,
-        ("user", _) => ask.words.user = cursor.number("a user's mark")?,
-        ("permissions", _) => {
-            let expected = "permissions: letters of RWX, '-' or a number";
-            ask.words.permissions = cursor.value(expected, words::permissions)?;
+    }
+}
+
+/// What stands behind an argument's word.
+fn value(
+    cursor: &mut Cursor,
+    argument: Argument,
+    names: &HashSet<String>,
+    ask: &mut Ask,
+) -> Result<(), Error> {
+    let expected = arguments::expected(argument);
+    match argument {
+        Argument::Address | Argument::Token => ask.token = token(cursor, names)?,
+        Argument::SecondToken => ask.second = token(cursor, names)?,
+        Argument::Key => [ask.token, ask.second] = key(cursor)?.map(Word::Number),
+        Argument::Offset => ask.second = Word::Number(cursor.number(expected)?),
+        Argument::Permissions => {
+            ask.words.permissions = cursor.value(expected, words::permissions)?
         }
-        ("encoding", _) => ask.words.encoding = cursor.number("an encoding")?,
-        ("buffer", _) => ask.buffer = bytes::read(cursor)?,
         _ => {
-            let own = match Operation::of(ask.words.operation) {
-                Some(Operation::Reset) => "'key', 'nonce', ",
-                Some(Operation::Derive) => "'offset', ",
-                _ => "",
-            };
-            let expected = format!(
-                "{own}'task', 'length', 'user', 'permissions', 'encoding', 'token', 'second', \
-                 'buffer' or '->'"
-            );
-            return Err(cursor.error_before(&expected));
+            let number = cursor.number(expected)?;
+            argument.places().iter().for_each(|place| *ask.words.at(*place) = number);
         }
     }
     Ok(())

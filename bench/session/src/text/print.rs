@@ -4,10 +4,10 @@ use super::script::{
     Ask, Comments, EntryLine, Expected, Script, Sizes, Standing, Start, StatedState, Word,
 };
 use super::words::token_text;
-use super::{bytes, words, FILL};
+use super::{arguments, bytes, words, FILL};
 use crate::entry::{self, Field, ENTRY};
 use crate::token::PARENT_ENCODING;
-use bridge::Operation;
+use bridge::{Argument, Buffer, Operation, Place};
 use std::fmt::Write;
 
 /// Requests longer than this do not push the results of the others to the right.
@@ -85,47 +85,68 @@ pub fn print_request(ask: &Ask) -> String {
         None => format!("operation {}", words::number_text(ask.words.operation)),
     };
     text.push_str(&leading(ask, operation));
-    let sized = matches!(operation, Some(Operation::Create | Operation::Derive));
-    let mut push = |name: &str, value: u64, always: bool| {
-        if always || value != 0 {
-            let _ = write!(text, " {name} {}", words::number_text(value));
-        }
-    };
-    let reset = operation == Some(Operation::Reset);
-    let locking = matches!(operation, Some(Operation::Lock | Operation::Unlock));
-    push(if reset { "nonce" } else { "task" }, ask.words.task, reset || locking);
-    push("length", ask.words.length, sized);
-    push("user", ask.words.user, false);
-    if sized || ask.words.permissions != 0 {
-        let _ = write!(text, " permissions {}", words::permissions_text(ask.words.permissions));
-    }
-    if ask.words.encoding != 0 {
-        let _ = write!(text, " encoding {}", words::number_text(ask.words.encoding));
+    for any in arguments::NUMBERS {
+        text.push_str(&argument_text(ask, operation, any));
     }
     text + &trailing_buffer(ask, operation)
 }
 
+/// A number behind its word, unless it can be left out.
+fn argument_text(ask: &Ask, operation: Option<Operation>, any: Argument) -> String {
+    let (argument, taken) = arguments::instead(operation, any);
+    let (words, places) = (ask.words.in_order(), argument.places());
+    let value = places.iter().fold(0, |_, place| words[*place]);
+    if value == 0 && !(taken && arguments::is_always_written(argument)) {
+        return String::new();
+    }
+    let value = match argument {
+        Argument::Permissions => words::permissions_text(value),
+        _ => words::number_text(value),
+    };
+    format!(" {} {value}", arguments::word(argument))
+}
+
 /// The tokens, and what stands behind them without a name.
 fn leading(ask: &Ask, operation: Option<Operation>) -> String {
+    let takes = |argument| operation.is_some_and(|operation| operation.takes(argument));
     let (token, second) = (word_text(&ask.token), word_text(&ask.second));
-    let no_second = ask.second == Word::Number(0);
-    let other = if no_second { String::new() } else { format!(" second {second}") };
-    match operation {
-        Some(Operation::Reset) => {
-            format!(" key {} {}", key_text(&ask.token), key_text(&ask.second))
-        }
-        Some(Operation::Merge) => format!(" {token} {second}"),
-        Some(Operation::Derive) if no_second => format!(" {token}"),
-        Some(Operation::Derive) => format!(" {token} offset {}", key_text(&ask.second)),
-        Some(Operation::Read | Operation::Fetch) if is_filled(ask) => {
-            format!(" {token} {}{other}", ask.buffer.len())
-        }
-        Some(Operation::Write) => format!(" {token} {}{other}", bytes::text(&ask.buffer)),
-        Some(_) => format!(" {token}{other}"),
-        None => match ask.token == Word::Number(0) {
-            true => other,
-            false => format!(" token {token}{other}"),
-        },
+    let mut text = String::new();
+    if takes(Argument::Key) {
+        let _ = write!(text, " key {} {}", key_text(&ask.token), key_text(&ask.second));
+    }
+    if operation.is_some_and(Operation::names_entry) {
+        let _ = write!(text, " {token}");
+    }
+    if takes(Argument::SecondToken) {
+        let _ = write!(text, " {second}");
+    }
+    if takes(Argument::Offset) && !is_zero(&ask.second) {
+        let _ = write!(text, " offset {}", key_text(&ask.second));
+    }
+    text += &unused_text(operation, Argument::Token, &ask.token);
+    text += &transferred(ask, operation);
+    text + &unused_text(operation, Argument::SecondToken, &ask.second)
+}
+
+/// A token's word that the operation does not look at, unless it is zero.
+fn unused_text(operation: Option<Operation>, argument: Argument, word: &Word) -> String {
+    let uses = |operation: Operation| argument.places().iter().any(|place| operation.uses(*place));
+    if operation.is_some_and(uses) || is_zero(word) {
+        return String::new();
+    }
+    format!(" {} {}", arguments::word(argument), word_text(word))
+}
+
+fn is_zero(word: &Word) -> bool {
+    *word == Word::Number(0)
+}
+
+/// What is transferred, where it stands in front: the bytes, or how many.
+fn transferred(ask: &Ask, operation: Option<Operation>) -> String {
+    match operation.map(Operation::buffer) {
+        Some(Buffer::Filled) if is_filled(ask) => format!(" {}", ask.buffer.len()),
+        Some(Buffer::Brought) => format!(" {}", bytes::text(&ask.buffer)),
+        _ => String::new(),
     }
 }
 
@@ -135,10 +156,10 @@ fn is_filled(ask: &Ask) -> bool {
 
 /// The buffer, where it does not stand in front.
 fn trailing_buffer(ask: &Ask, operation: Option<Operation>) -> String {
-    let in_front = match operation {
-        Some(Operation::Read | Operation::Fetch) => is_filled(ask),
-        Some(Operation::Write) => true,
-        _ => ask.buffer.is_empty(),
+    let in_front = match operation.map(Operation::buffer) {
+        Some(Buffer::Filled) => is_filled(ask),
+        Some(Buffer::Brought) => true,
+        Some(Buffer::Unused) | None => ask.buffer.is_empty(),
     };
     if in_front {
         String::new()
@@ -169,10 +190,8 @@ fn key_text(word: &Word) -> String {
 
 fn expected_text(expected: &Expected) -> String {
     let mut text = words::number_text(expected.refusal);
-    match expected.place {
-        Some(1) => text.push_str(" named"),
-        Some(2) => text.push_str(" ancestor"),
-        _ => {}
+    if let Some(place) = expected.place.and_then(Place::of) {
+        let _ = write!(text, " {}", words::place_word(place));
     }
     text.push_str(&tokens_text(expected));
     if let Some(number) = expected.number {

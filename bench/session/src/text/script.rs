@@ -8,7 +8,7 @@ use super::words;
 use crate::entry::{self, Field, ENTRY};
 use crate::token::Token;
 use crate::{Session, Step, World};
-use bridge::{Operation, Reply, State, Words};
+use bridge::{Argument, Operation, Reply, State, Words};
 
 /// A start, and requests with what is expected of them.
 #[derive(Clone, Debug, PartialEq, Eq)]
@@ -315,22 +315,24 @@ impl Ask {
         let Ok(words) = self.resolve(&Names::new()) else {
             return;
         };
-        let operation = Operation::of(self.words.operation);
-        let has_token = !matches!(operation, None | Some(Operation::Reset));
-        if has_token {
+        let Some(operation) = Operation::of(self.words.operation) else {
+            return;
+        };
+        if operation.names_entry() {
             self.token = named(words.token, given);
         }
-        if operation == Some(Operation::Merge) {
+        if operation.takes(Argument::SecondToken) {
             self.second = named(words.second, given);
         }
     }
 }
 
 impl Expected {
-    /// All that an answer gives, under these names. Zeros are not stated, but for drop's number.
+    /// All that an answer gives, under these names. Zeros are not stated, but for a number that the
+    /// operation answers.
     pub fn of(operation: u64, reply: &Reply, names: [Option<String>; 2]) -> Expected {
         let granted = reply.refusal == 0;
-        let dropped = granted && operation == Operation::Drop as u64;
+        let answers = Operation::of(operation).is_some_and(Operation::answers_number);
         let [first, second] = names.map(|name| name.filter(|_| granted));
         let stated = |word: u64, named: bool| Some(word).filter(|word| *word != 0 || named);
         Expected {
@@ -338,7 +340,7 @@ impl Expected {
             place: stated(reply.place, false),
             first: stated(reply.first, first.is_some()),
             second: stated(reply.second, second.is_some()),
-            number: stated(reply.dropped, dropped),
+            number: stated(reply.dropped, granted && answers),
             buffer: None,
             names: [first, second],
         }
@@ -351,17 +353,10 @@ impl Expected {
     }
 }
 
-/// The names that an operation's tokens get: of its answer's kind, with the request's number.
+/// The names that an operation's tokens get: what they name, with the request's number.
 fn token_names(operation: u64, at: usize) -> [Option<String>; 2] {
-    let name = |kind: &str| Some(format!("{kind}{at}"));
-    match Operation::of(operation) {
-        Some(Operation::Create) => [name("part"), name("rest")],
-        Some(Operation::Merge) => [name("whole"), None],
-        Some(Operation::Derive) => [name("child"), None],
-        Some(Operation::ExecuteOnly) => [name("code"), None],
-        Some(Operation::Revoke) => [name("fresh"), None],
-        _ => [None, None],
-    }
+    let tokens = Operation::of(operation).map_or(&[][..], Operation::tokens);
+    [0, 1].map(|which| tokens.get(which).map(|name| format!("{name}{at}")))
 }
 
 /// A token by the name that was given last for the same entry.

@@ -1,8 +1,10 @@
 //! Single words: numbers, permissions, names and tokens.
 
+use super::arguments;
 use super::script::Word;
 use crate::entry::Field;
 use crate::token::Token;
+use bridge::{Argument, Operation, Place};
 
 /// A number, decimal or hex behind 0x; `_` may part digits.
 pub fn number(word: &str) -> Option<u64> {
@@ -56,48 +58,32 @@ pub fn permissions_text(permissions: u64) -> String {
     }
 }
 
-/// Words that cannot be names, since the lines of requests use them.
-const RESERVED: [&str; 34] = [
-    "root",
-    "reset",
-    "read",
-    "write",
-    "fetch",
-    "create",
-    "merge",
-    "derive",
-    "execute-only",
-    "clone",
-    "drop",
-    "lock",
-    "unlock",
-    "revoke",
-    "operation",
-    "key",
-    "nonce",
-    "token",
-    "second",
-    "first",
-    "task",
-    "length",
-    "user",
-    "permissions",
-    "encoding",
-    "offset",
-    "buffer",
-    "granted",
-    "named",
-    "ancestor",
-    "number",
-    "as",
-    "exact",
-    "entry",
-];
+/// Words that cannot be names, since the lines of requests use them: these, those of operations and
+/// those of arguments.
+const RESERVED: [&str; 9] =
+    ["root", "operation", "first", "buffer", "granted", "number", "as", "exact", "entry"];
+
+fn is_reserved(word: &str) -> bool {
+    let argument = Argument::ALL.iter().any(|argument| arguments::word(*argument) == word);
+    let place = place_of(word).is_some();
+    RESERVED.contains(&word) || argument || place || Operation::named(word).is_some()
+}
+
+/// The words of places, behind a refusal's number.
+const PLACES: [(&str, Place); 2] = [("named", Place::Named), ("ancestor", Place::Ancestor)];
+
+pub fn place_of(word: &str) -> Option<Place> {
+    PLACES.iter().find(|(name, _)| *name == word).map(|(_, place)| *place)
+}
+
+pub fn place_word(place: Place) -> &'static str {
+    PLACES.iter().find(|(_, other)| *other == place).map_or("", |(name, _)| name)
+}
 
 pub fn is_name(word: &str) -> bool {
     let starts = word.starts_with(|first: char| first.is_ascii_alphabetic());
     let inside = |letter: char| letter.is_ascii_alphanumeric() || letter == '_' || letter == '-';
-    starts && word.chars().all(inside) && !RESERVED.contains(&word)
+    starts && word.chars().all(inside) && !is_reserved(word)
 }
 
 /// A token: a number, `NAME` or `@NUMBER:TAG`, the last two with `/ENCODING` and `+OFFSET`

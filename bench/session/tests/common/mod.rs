@@ -1,7 +1,7 @@
 //! Random sessions of any kind.
 #![allow(dead_code)]
 
-use bridge::{State, Words};
+use bridge::{Operation, State, Words};
 use session::{Session, Step, World};
 
 /// A small generator of numbers.
@@ -45,8 +45,9 @@ impl Dice {
     }
 
     pub fn words(&mut self) -> Words {
-        let words = [(); 8].map(|()| self.some_word());
-        let operation = if self.below(8) == 0 { words[0] } else { self.below(14) };
+        let words = [(); Words::COUNT].map(|()| self.some_word());
+        let operation =
+            if self.below(8) == 0 { words[0] } else { self.below(Operation::COUNT as u64 + 1) };
         Words { operation, ..Words::from_order(words) }
     }
 
@@ -63,8 +64,7 @@ impl Dice {
             let length = [0, 32 * self.below(9), self.below(300), 31, 33];
             length[self.below(5) as usize] as usize
         });
-        let [key0, key1, last_number, next_nonce] = [(); 4].map(|()| self.some_word());
-        let state = State { key: [key0, key1], last_number, next_nonce };
+        let state = State::from_order([(); State::WORDS].map(|()| self.some_word()));
         let (mut table, memory) = (self.bytes(table), self.bytes(memory));
         // Types 1 and 2 are written by their fields.
         for part in table.chunks_mut(32).step_by(2) {

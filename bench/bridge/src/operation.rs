@@ -1,0 +1,249 @@
+//! The operations: one row each, from which the bench takes all that it knows of an operation.
+
+use crate::refusal::Check::{self, *};
+use crate::words::Argument::{self, *};
+
+/// The numbers of the operations.
+#[derive(Clone, Copy, Debug, PartialEq, Eq, PartialOrd, Ord, Hash)]
+#[repr(u64)]
+pub enum Operation {
+    Reset = 0,
+    Read = 1,
+    Write = 2,
+    Fetch = 3,
+    Create = 4,
+    Merge = 5,
+    Derive = 6,
+    ExecuteOnly = 7,
+    Clone = 8,
+    Drop = 9,
+    Lock = 10,
+    Unlock = 11,
+    Revoke = 12,
+}
+
+/// What the buffer is to an operation.
+#[derive(Clone, Copy, Debug, PartialEq, Eq)]
+pub enum Buffer {
+    /// It is not looked at.
+    Unused,
+    /// It is written.
+    Filled,
+    /// It is read.
+    Brought,
+}
+
+/// What is known of an operation.
+struct Facts {
+    operation: Operation,
+    name: &'static str,
+    /// What its words say; all others are not looked at.
+    arguments: &'static [Argument],
+    buffer: Buffer,
+    /// The tokens that a granted answer carries, by what they name.
+    tokens: &'static [&'static str],
+    /// Whether a granted answer carries a number.
+    number: bool,
+    /// The checks that it can stop at, by 01's table. Not possible are:
+    /// - Dead of a drop: "dead; drop skips this";
+    /// - Lock, but for "access, create, merge, lock, unlock";
+    /// - Kind, but for "create, merge, revoke of an indirect entry";
+    /// - Right of merge (it takes "the permissions both have"), clone, drop, unlock, revoke: none
+    ///   asks for a permission, X or Lockable;
+    /// - Bounds, but for accesses, create, derive and merge: the others name no bytes ("without the
+    ///   sum");
+    /// - Standing, but for those that its row names;
+    /// - Numbers, but for "create, derive, execute-only";
+    /// - Nonces, but for those that issue: create, merge, derive, execute-only, revoke;
+    /// - and a reset looks at the sizes and the first nonce alone.
+    checks: &'static [Check],
+}
+
+/// An operation of which nothing more is said: no buffer, and nothing in its answer.
+const fn of(operation: Operation) -> Facts {
+    let (arguments, checks, tokens) = (&[], &[], &[]);
+    Facts { operation, name: "", arguments, buffer: Buffer::Unused, tokens, number: false, checks }
+}
+
+/// What an access can stop at.
+const ACCESS: &[Check] = &[Request, Entry, IllFormed, Dead, Lock, Right, Bounds];
+
+const ROWS: &[Facts] = &[
+    Facts {
+        name: "reset",
+        arguments: &[Key, FirstNonce],
+        checks: &[Request],
+        ..of(Operation::Reset)
+    },
+    Facts {
+        name: "read",
+        arguments: &[Address, Task],
+        buffer: Buffer::Filled,
+        checks: ACCESS,
+        ..of(Operation::Read)
+    },
+    Facts {
+        name: "write",
+        arguments: &[Address, Task],
+        buffer: Buffer::Brought,
+        checks: ACCESS,
+        ..of(Operation::Write)
+    },
+    Facts {
+        name: "fetch",
+        arguments: &[Address, Task],
+        buffer: Buffer::Filled,
+        checks: ACCESS,
+        ..of(Operation::Fetch)
+    },
+    Facts {
+        name: "create",
+        arguments: &[Token, Task, Length, User, Permissions, Encoding],
+        tokens: &["part", "rest"],
+        checks: &[
+            Request, Entry, IllFormed, Dead, Lock, Kind, Right, Bounds, Standing, Numbers, Nonces,
+        ],
+        ..of(Operation::Create)
+    },
+    Facts {
+        name: "merge",
+        arguments: &[Token, SecondToken, Task, Encoding],
+        tokens: &["whole"],
+        checks: &[Request, Entry, IllFormed, Dead, Lock, Kind, Bounds, Standing, Nonces],
+        ..of(Operation::Merge)
+    },
+    Facts {
+        name: "derive",
+        arguments: &[Token, Offset, Length, Permissions, Encoding],
+        tokens: &["child"],
+        checks: &[Request, Entry, IllFormed, Dead, Right, Bounds, Standing, Numbers, Nonces],
+        ..of(Operation::Derive)
+    },
+    Facts {
+        name: "execute-only",
+        arguments: &[Token, Encoding],
+        tokens: &["code"],
+        checks: &[Request, Entry, IllFormed, Dead, Right, Standing, Numbers, Nonces],
+        ..of(Operation::ExecuteOnly)
+    },
+    Facts {
+        name: "clone",
+        arguments: &[Token],
+        checks: &[Request, Entry, IllFormed, Dead, Standing],
+        ..of(Operation::Clone)
+    },
+    Facts {
+        name: "drop",
+        arguments: &[Token],
+        number: true,
+        checks: &[Request, Entry, IllFormed, Standing],
+        ..of(Operation::Drop)
+    },
+    Facts {
+        name: "lock",
+        arguments: &[Token, Holder],
+        checks: &[Request, Entry, IllFormed, Dead, Lock, Right],
+        ..of(Operation::Lock)
+    },
+    Facts {
+        name: "unlock",
+        arguments: &[Token, Holder],
+        checks: &[Request, Entry, IllFormed, Dead, Lock, Standing],
+        ..of(Operation::Unlock)
+    },
+    Facts {
+        name: "revoke",
+        arguments: &[Token, Encoding],
+        tokens: &["fresh"],
+        checks: &[Request, Entry, IllFormed, Dead, Kind, Nonces],
+        ..of(Operation::Revoke)
+    },
+];
+
+/// The operations of the rows, each of which stands at its number.
+const fn all() -> [Operation; ROWS.len()] {
+    let mut all = [Operation::Reset; ROWS.len()];
+    let mut at = 0;
+    while at < ROWS.len() {
+        all[at] = ROWS[at].operation;
+        assert!(all[at] as usize == at);
+        at += 1;
+    }
+    all
+}
+
+impl Operation {
+    pub const COUNT: usize = ROWS.len();
+
+    /// Every operation, at the index of its number.
+    pub const ALL: [Operation; Operation::COUNT] = all();
+
+    pub fn of(number: u64) -> Option<Operation> {
+        usize::try_from(number).ok().and_then(|n| Operation::ALL.get(n).copied())
+    }
+
+    /// The operation of a name.
+    pub fn named(name: &str) -> Option<Operation> {
+        Operation::ALL.into_iter().find(|operation| operation.name() == name)
+    }
+
+    fn facts(self) -> &'static Facts {
+        &ROWS[self as usize]
+    }
+
+    pub fn name(self) -> &'static str {
+        self.facts().name
+    }
+
+    pub fn arguments(self) -> &'static [Argument] {
+        self.facts().arguments
+    }
+
+    pub fn takes(self, argument: Argument) -> bool {
+        self.arguments().contains(&argument)
+    }
+
+    /// Whether the word at a place is looked at, beside the first.
+    pub fn uses(self, place: usize) -> bool {
+        self.arguments().iter().any(|argument| argument.places().contains(&place))
+    }
+
+    /// Whether it asks for bytes at an address.
+    pub fn is_access(self) -> bool {
+        self.takes(Address)
+    }
+
+    /// Whether it names an entry by a token.
+    pub fn names_entry(self) -> bool {
+        self.takes(Address) || self.takes(Token)
+    }
+
+    pub fn buffer(self) -> Buffer {
+        self.facts().buffer
+    }
+
+    /// The tokens that a granted answer carries, by what they name.
+    pub fn tokens(self) -> &'static [&'static str] {
+        self.facts().tokens
+    }
+
+    /// Whether a granted answer carries a token for an entry that was issued.
+    pub fn issues(self) -> bool {
+        !self.tokens().is_empty()
+    }
+
+    /// Whether it gives a new number.
+    pub fn gives_number(self) -> bool {
+        self.stops_at(Numbers)
+    }
+
+    /// Whether a granted answer carries a number, as drop's does.
+    pub fn answers_number(self) -> bool {
+        self.facts().number
+    }
+
+    /// Whether a request of it can be refused at a check.
+    pub fn stops_at(self, check: Check) -> bool {
+        self.facts().checks.contains(&check)
+    }
+}

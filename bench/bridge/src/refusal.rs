@@ -1,0 +1,134 @@
+//! Refusals: one row each, from which the bench takes a refusal's number, its words and its places.
+
+/// Which entry was the bad one.
+#[derive(Clone, Copy, Debug, PartialEq, Eq)]
+#[repr(u64)]
+pub enum Place {
+    Named = 1,
+    Ancestor = 2,
+}
+
+/// Why a request was refused.
+#[derive(Clone, Copy, Debug, PartialEq, Eq)]
+pub enum Refusal {
+    Request,
+    Entry,
+    IllFormed(Place),
+    Dead(Place),
+    Lock,
+    Kind,
+    Right,
+    Bounds,
+    Standing,
+    Numbers,
+    Nonces,
+}
+
+/// The checks of 01's table "Where a request stops", by the numbers of their refusals.
+#[derive(Clone, Copy, Debug, PartialEq, Eq)]
+#[repr(u64)]
+pub enum Check {
+    Request = 1,
+    Entry = 2,
+    IllFormed = 3,
+    Dead = 4,
+    Lock = 5,
+    Kind = 6,
+    Right = 7,
+    Bounds = 8,
+    Standing = 9,
+    Numbers = 10,
+    Nonces = 11,
+}
+
+/// A refusal alone, or one that tells a place.
+enum Form {
+    Plain(Refusal),
+    Placed(fn(Place) -> Refusal),
+}
+
+use Form::{Placed, Plain};
+
+/// Each check with what its refusal means and what it is, typed.
+const ROWS: &[(Check, &str, Form)] = &[
+    (Check::Request, "bad request", Plain(Refusal::Request)),
+    (Check::Entry, "no such entry", Plain(Refusal::Entry)),
+    (Check::IllFormed, "ill-formed", Placed(Refusal::IllFormed)),
+    (Check::Dead, "dead line", Placed(Refusal::Dead)),
+    (Check::Lock, "locked for another task", Plain(Refusal::Lock)),
+    (Check::Kind, "not a direct entry", Plain(Refusal::Kind)),
+    (Check::Right, "right lacking", Plain(Refusal::Right)),
+    (Check::Bounds, "out of bounds", Plain(Refusal::Bounds)),
+    (Check::Standing, "standing forbids it", Plain(Refusal::Standing)),
+    (Check::Numbers, "no free number", Plain(Refusal::Numbers)),
+    (Check::Nonces, "too few nonces", Plain(Refusal::Nonces)),
+];
+
+/// Each row stands at its number, from 1 on.
+const _: () = {
+    let mut at = 0;
+    while at < ROWS.len() {
+        assert!(ROWS[at].0 as usize == at + 1);
+        at += 1;
+    }
+};
+
+impl Check {
+    pub const COUNT: usize = ROWS.len();
+
+    /// Every check, in 01's order.
+    pub fn all() -> impl Iterator<Item = Check> {
+        ROWS.iter().map(|(check, ..)| *check)
+    }
+
+    /// The check of a refusal's number.
+    pub fn of(refusal: u64) -> Option<Check> {
+        Check::all().find(|check| *check as u64 == refusal)
+    }
+
+    fn row(self) -> &'static (Check, &'static str, Form) {
+        &ROWS[self as usize - 1]
+    }
+
+    /// The numbers of the places that its refusal tells; 0 alone if it tells none.
+    pub fn places(self) -> &'static [u64] {
+        match self.row().2 {
+            Plain(_) => &[0],
+            Placed(_) => &[Place::Named as u64, Place::Ancestor as u64],
+        }
+    }
+
+    /// Its refusal, if it is one with such a place, or with none.
+    pub fn refusal(self, place: Option<Place>) -> Option<Refusal> {
+        match (&self.row().2, place) {
+            (Plain(refusal), None) => Some(*refusal),
+            (Placed(refusal), Some(place)) => Some(refusal(place)),
+            _ => None,
+        }
+    }
+}
+
+/// What a refusal's number means; 0 is granted.
+pub fn refusal_words(refusal: u64) -> &'static str {
+    match (refusal, Check::of(refusal)) {
+        (0, _) => "granted",
+        (_, Some(check)) => check.row().1,
+        (_, None) => "no refusal of the interface",
+    }
+}
+
+impl Place {
+    pub const ALL: [Place; 2] = [Place::Named, Place::Ancestor];
+
+    /// The place of a number; none for 0.
+    pub fn of(number: u64) -> Option<Place> {
+        Place::ALL.into_iter().find(|place| *place as u64 == number)
+    }
+
+    pub fn words(self) -> &'static str {
+        match self {
+            Place::Named => "the named entry",
+            Place::Ancestor => "an ancestor",
+        }
+    }
+}

@@ -1,0 +1,40 @@
+//! The state, as the interface's words.
+
+use std::fmt;
+
+/// The key, the last number given and the next nonce.
+#[derive(Clone, Copy, Debug, Default, PartialEq, Eq)]
+pub struct State {
+    pub key: [u64; 2],
+    pub last_number: u64,
+    pub next_nonce: u64,
+}
+
+impl State {
+    pub const WORDS: usize = 4;
+
+    /// The words, as they stand in the interface's bytes.
+    pub fn in_order(&self) -> [u64; State::WORDS] {
+        let State { key: [key0, key1], last_number, next_nonce } = *self;
+        [key0, key1, last_number, next_nonce]
+    }
+
+    pub fn from_order(words: [u64; State::WORDS]) -> State {
+        let [key0, key1, last_number, next_nonce] = words;
+        State { key: [key0, key1], last_number, next_nonce }
+    }
+
+    /// The word at a place.
+    pub fn at(&mut self, place: usize) -> &mut u64 {
+        let State { key: [key0, key1], last_number, next_nonce } = self;
+        let words: [&mut u64; State::WORDS] = [key0, key1, last_number, next_nonce];
+        words.into_iter().nth(place).expect("a place of a state's word")
+    }
+}
+
+impl fmt::Display for State {
+    fn fmt(&self, f: &mut fmt::Formatter<'_>) -> fmt::Result {
+        let State { key: [key0, key1], last_number, next_nonce } = self;
+        write!(f, "key {key0:x} {key1:x} last number {last_number} next nonce {next_nonce}")
+    }
+}
