@@ -10,7 +10,7 @@ use std::time::Duration;
 use bridge::{Reply, State, Words};
 use session::World;
 
-use crate::machine::{replace, Machine, Trouble};
+use crate::machine::{Machine, Trouble};
 use crate::protocol::{self, GREETING, PIECE};
 
 /// How long a program may keep silent, in milliseconds: before its greeting, and then.
@@ -287,9 +287,7 @@ impl Machine for Simulator {
         if self.process.is_none() {
             self.greet()?;
         }
-        self.shown.state = world.state;
-        replace(&mut self.shown.table, &world.table);
-        replace(&mut self.shown.memory, &world.memory);
+        self.shown.replace(world);
         let lengths = [world.table.len() as u64, world.memory.len() as u64];
         let mut line = b"world".to_vec();
         protocol::write_numbers(&mut line, &lengths);

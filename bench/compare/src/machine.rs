@@ -1,6 +1,7 @@
 //! Machines that can be compared.
 
 use bridge::{Reply, State, Words};
+use session::server::{self, Server};
 use session::World;
 
 /// Why a machine gave no answer.
@@ -37,18 +38,28 @@ pub trait Machine {
     fn memory(&self) -> &[u8];
 }
 
-/// Puts other bytes into a vector, without giving its room back.
-pub fn replace(place: &mut Vec<u8>, bytes: &[u8]) {
-    place.clear();
-    place.extend_from_slice(bytes);
+/// A server of requests in this process, with a world of its own.
+pub struct Local<S> {
+    name: &'static str,
+    server: S,
+    world: World,
 }
 
-/// The proved library, in this process.
-pub struct Proved(World);
+/// The proved library.
+pub type Proved = Local<server::Proved>;
+
+/// The model.
+pub type Model = Local<server::Model>;
 
 impl Proved {
     pub fn new() -> Proved {
-        Proved(World::zeros(0, 0))
+        Local { name: "proved code", server: server::Proved, world: World::zeros(0, 0) }
+    }
+}
+
+impl Model {
+    pub fn new() -> Model {
+        Local { name: "model", server: server::Model, world: World::zeros(0, 0) }
     }
 }
 
@@ -58,83 +69,35 @@ impl Default for Proved {
     }
 }
 
-impl Machine for Proved {
+impl Default for Model {
+    fn default() -> Self {
+        Model::new()
+    }
+}
+
+impl<S: Server> Machine for Local<S> {
     fn name(&self) -> &str {
-        "proved code"
+        self.name
     }
 
     fn begin(&mut self, world: &World) -> Result<(), Trouble> {
-        self.0.state = world.state;
-        replace(&mut self.0.table, &world.table);
-        replace(&mut self.0.memory, &world.memory);
+        self.world.replace(world);
         Ok(())
     }
 
     fn serve(&mut self, request: &Words, buffer: &mut [u8]) -> Result<Reply, Trouble> {
-        Ok(self.0.serve(request, buffer))
+        Ok(self.server.serve(request, &mut self.world, buffer))
     }
 
     fn state(&self) -> State {
-        self.0.state
+        self.world.state
     }
 
     fn table(&self) -> &[u8] {
-        &self.0.table
+        &self.world.table
     }
 
     fn memory(&self) -> &[u8] {
-        &self.0.memory
-    }
-}
-
-/// The model, in this process.
-#[derive(Default)]
-pub struct Model {
-    state: model::State,
-    table: Vec<u8>,
-    memory: Vec<u8>,
-}
-
-impl Model {
-    pub fn new() -> Model {
-        Model::default()
-    }
-}
-
-impl Machine for Model {
-    fn name(&self) -> &str {
-        "model"
-    }
-
-    fn begin(&mut self, world: &World) -> Result<(), Trouble> {
-        let State { key: [key0, key1], last_number: last, next_nonce: next } = world.state;
-        self.state = model::State { key0, key1, last, next };
-        replace(&mut self.table, &world.table);
-        replace(&mut self.memory, &world.memory);
-        Ok(())
-    }
-
-    fn serve(&mut self, request: &Words, buffer: &mut [u8]) -> Result<Reply, Trouble> {
-        let [operation, token, second, task, length, user, permissions, encoding] =
-            request.in_order();
-        let request =
-            model::Request { operation, token, second, task, length, user, permissions, encoding };
-        let answer =
-            model::serve(request, &mut self.state, &mut self.table, &mut self.memory, buffer);
-        let model::Answer { refusal, place, first, second, dropped } = answer;
-        Ok(Reply { refusal, place, first, second, dropped })
-    }
-
-    fn state(&self) -> State {
-        let model::State { key0, key1, last, next } = self.state;
-        State { key: [key0, key1], last_number: last, next_nonce: next }
-    }
-
-    fn table(&self) -> &[u8] {
-        &self.table
-    }
-
-    fn memory(&self) -> &[u8] {
-        &self.memory
+        &self.world.memory
     }
 }

@@ -1,10 +1,10 @@
 //! Two machines that get the same requests, compared after each of them.
 
 use bridge::{Reply, State, Words};
-use session::{Session, World};
+use session::{replace, Session, World};
 
 use crate::difference::Difference;
-use crate::machine::{replace, Machine};
+use crate::machine::Machine;
 
 /// The proved code and another machine.
 pub struct Pair {

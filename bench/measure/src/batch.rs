@@ -8,6 +8,8 @@
 use std::hint::black_box;
 use std::time::Instant;
 
+use bridge::{ANSWER_BYTES, REQUEST_BYTES, STATE_BYTES};
+
 use crate::case::Case;
 use crate::limit::{self, Limit};
 use crate::paged::Paged;
@@ -37,16 +39,16 @@ impl Subject {
 /// State, table and answer of one copy; the state also as the model has it.
 #[derive(Clone, PartialEq, Eq)]
 struct Lent {
-    state: [u8; 32],
+    state: [u8; STATE_BYTES],
     typed: model::State,
     table: Vec<u8>,
-    answer: [u8; 40],
+    answer: [u8; ANSWER_BYTES],
 }
 
 /// A case that is ready to be asked.
 pub struct Batch {
     pub case: Case,
-    request: [u8; 64],
+    request: [u8; REQUEST_BYTES],
     start: Lent,
     copies: Vec<Lent>,
     memory: Paged,
@@ -59,7 +61,8 @@ impl Batch {
         let request = served::request_bytes(&case.request);
         let state = served::state_bytes(&case.world.state);
         let typed = served::state_of(&state);
-        let start = Lent { state, typed, table: case.world.table.clone(), answer: [0xff; 40] };
+        let start =
+            Lent { state, typed, table: case.world.table.clone(), answer: [0xff; ANSWER_BYTES] };
         let memory = Paged::new(&case.world.memory);
         let buffer = Paged::new(&vec![0xa5; case.buffer]);
         let (copies, passes) = if case.repeats() {

@@ -2,7 +2,8 @@
 //! the segment's bytes. What the tables stand at and what is asked are tried one with the other, and
 //! what the model refuses is kept.
 
-use bridge::{Operation, Request, Words};
+use bridge::{Operation, Request, Words, ANSWER_BYTES};
+use session::server::{Model, Server};
 use session::World;
 
 use crate::built::{Built, ALL};
@@ -61,7 +62,7 @@ impl Refused {
             *place = byte(at);
         }
         let request = served::request_bytes(&self.request);
-        let (mut state, mut answer) = (served::state_bytes(&world.state), [0; 40]);
+        let (mut state, mut answer) = (served::state_bytes(&world.state), [0; ANSWER_BYTES]);
         let mut buffer = vec![0xa5; self.buffer];
         let World { table, memory, .. } = &mut world;
         call(&request, &mut state, table, memory, &mut buffer, &mut answer)
@@ -211,10 +212,7 @@ fn refused_in(standing: &'static str, world: &World, asked: &[(Words, usize)]) -
 }
 
 fn refusal_of_model(world: &World, request: &Words, buffer: usize) -> u64 {
-    let World { state, mut table, mut memory } = world.clone();
-    let mut state = served::state_of(&served::state_bytes(&state));
-    let request = served::request_of(&served::request_bytes(request));
-    model::serve(request, &mut state, &mut table, &mut memory, &mut vec![0xa5; buffer]).refusal
+    Model.serve(request, &mut world.clone(), &mut vec![0xa5; buffer]).refusal
 }
 
 #[cfg(test)]

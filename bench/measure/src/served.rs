@@ -4,6 +4,10 @@
 
 use std::hint::black_box;
 
+use bridge::{put_words, words_of, Check, State, Words};
+use bridge::{ANSWER_BYTES, REQUEST_BYTES, STATE_BYTES};
+use session::server::{model_request, model_state, reply_of_model, state_of_model};
+
 /// The interface's function: request, state, table, memory, buffer, answer. It returns the refusal.
 pub type Call = fn(&[u8], &mut [u8], &mut [u8], &mut [u8], &mut [u8], &mut [u8]) -> u64;
 
@@ -32,18 +36,17 @@ pub fn model(
     answer: &mut [u8],
 ) -> u64 {
     let (Ok(request), Ok(state), Ok(answer)) = (
-        <&[u8; 64]>::try_from(request),
-        <&mut [u8; 32]>::try_from(state),
-        <&mut [u8; 40]>::try_from(answer),
+        <&[u8; REQUEST_BYTES]>::try_from(request),
+        <&mut [u8; STATE_BYTES]>::try_from(state),
+        <&mut [u8; ANSWER_BYTES]>::try_from(answer),
     ) else {
-        return 1;
+        return Check::Request as u64;
     };
     let mut typed = state_of(state);
     let given = model::serve(request_of(request), &mut typed, table, memory, buffer);
-    put_words(state, [typed.key0, typed.key1, typed.last, typed.next]);
-    let model::Answer { refusal, place, first, second, dropped } = given;
-    put_words(answer, [refusal, place, first, second, dropped]);
-    refusal
+    put_words(state, &state_of_model(&typed).in_order());
+    put_words(answer, &reply_of_model(&given).in_order());
+    given.refusal
 }
 
 /// The floor: a call that does nothing with the six slices.
@@ -60,47 +63,28 @@ pub fn nothing(
     0
 }
 
-/// The 64 bytes of a request.
-pub fn request_bytes(request: &bridge::Words) -> [u8; 64] {
-    let mut bytes = [0; 64];
-    put_words(&mut bytes, request.in_order());
+/// The bytes of a request.
+pub fn request_bytes(request: &Words) -> [u8; REQUEST_BYTES] {
+    let mut bytes = [0; REQUEST_BYTES];
+    put_words(&mut bytes, &request.in_order());
     bytes
 }
 
-/// The 32 bytes of a state.
-pub fn state_bytes(state: &bridge::State) -> [u8; 32] {
-    let bridge::State { key: [key0, key1], last_number, next_nonce } = *state;
-    let mut bytes = [0; 32];
-    put_words(&mut bytes, [key0, key1, last_number, next_nonce]);
+/// The bytes of a state.
+pub fn state_bytes(state: &State) -> [u8; STATE_BYTES] {
+    let mut bytes = [0; STATE_BYTES];
+    put_words(&mut bytes, &state.in_order());
     bytes
 }
 
-/// The request that 64 bytes hold.
-pub fn request_of(bytes: &[u8; 64]) -> model::Request {
-    let [operation, token, second, task, length, user, permissions, encoding] = words_of(bytes);
-    model::Request { operation, token, second, task, length, user, permissions, encoding }
+/// The request that bytes hold, as the model has it.
+#[inline]
+pub fn request_of(bytes: &[u8; REQUEST_BYTES]) -> model::Request {
+    model_request(&Words::from_order(words_of(bytes)))
 }
 
-/// The state that 32 bytes hold.
-pub fn state_of(bytes: &[u8; 32]) -> model::State {
-    let [key0, key1, last, next] = words_of(bytes);
-    model::State { key0, key1, last, next }
-}
-
-/// The words that bytes hold, the low byte first.
-#[inline(always)]
-fn words_of<const WORDS: usize, const BYTES: usize>(bytes: &[u8; BYTES]) -> [u64; WORDS] {
-    let mut words = [0; WORDS];
-    for (word, part) in words.iter_mut().zip(bytes.as_chunks().0) {
-        *word = u64::from_le_bytes(*part);
-    }
-    words
-}
-
-/// The words are stored, the low byte first.
-#[inline(always)]
-fn put_words<const WORDS: usize, const BYTES: usize>(bytes: &mut [u8; BYTES], words: [u64; WORDS]) {
-    for (part, word) in bytes.as_chunks_mut().0.iter_mut().zip(words) {
-        *part = word.to_le_bytes();
-    }
+/// The state that bytes hold, as the model has it.
+#[inline]
+pub fn state_of(bytes: &[u8; STATE_BYTES]) -> model::State {
+    model_state(&State::from_order(words_of(bytes)))
 }

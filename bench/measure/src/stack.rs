@@ -6,7 +6,7 @@ use std::hint::black_box;
 use std::io;
 use std::ptr;
 
-use bridge::{Request, Words};
+use bridge::{Request, Words, ANSWER_BYTES, REQUEST_BYTES, STATE_BYTES};
 use session::World;
 
 use crate::built::Built;
@@ -79,11 +79,11 @@ fn deepest_bare() -> (World, u64) {
 /// A call, and what it tells.
 struct Job {
     call: Call,
-    request: [u8; 64],
-    state: [u8; 32],
+    request: [u8; REQUEST_BYTES],
+    state: [u8; STATE_BYTES],
     world: World,
     buffer: [u8; 1],
-    answer: [u8; 40],
+    answer: [u8; ANSWER_BYTES],
     /// An address in the caller's frame.
     frame: usize,
 }
@@ -102,7 +102,7 @@ fn used(
         state: served::state_bytes(&world.state),
         world: world.clone(),
         buffer: [0],
-        answer: [0; 40],
+        answer: [0; ANSWER_BYTES],
         frame: 0,
     };
     let lowest = stack.run(routine, &mut job)?;

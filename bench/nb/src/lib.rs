@@ -4,7 +4,6 @@ pub mod answer;
 pub mod arguments;
 pub mod commands;
 pub mod map;
-pub mod model_server;
 pub mod stored;
 pub mod style;
 

@@ -3,9 +3,9 @@
 use std::fs;
 use std::path::Path;
 
-use nb_tool::model_server::Model;
 use nb_tool::stored;
-use session::play::{goes_as_expected, Proved};
+use session::play::goes_as_expected;
+use session::server::{Model, Proved};
 use session::text::parse;
 
 fn document() -> String {

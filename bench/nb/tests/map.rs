@@ -2,7 +2,8 @@
 
 use nb_tool::map::draw;
 use nb_tool::style::Style;
-use session::play::{Player, Proved};
+use session::play::Player;
+use session::server::Proved;
 use session::text::parse;
 
 fn drawn(text: &str) -> String {

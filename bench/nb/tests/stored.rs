@@ -7,9 +7,9 @@ use std::path::PathBuf;
 
 use compare::{cases, possible, OPERATIONS};
 use nb_tool::commands::recorded;
-use nb_tool::model_server::Model;
 use nb_tool::stored::{self, Stored};
-use session::play::{goes_as_expected, record, search, Player, Proved, Server};
+use session::play::{goes_as_expected, record, search, Player};
+use session::server::{Model, Proved, Server};
 use session::text::{parse, print_script, Script};
 
 fn folder() -> PathBuf {

@@ -2,41 +2,9 @@
 
 pub mod entry;
 pub mod play;
+pub mod server;
 pub mod text;
 pub mod token;
+mod world;
 
-use bridge::{Reply, State, Words};
-
-/// What a request works on: the state, the table and the memory.
-#[derive(Clone, Debug, PartialEq, Eq)]
-pub struct World {
-    pub state: State,
-    pub table: Vec<u8>,
-    pub memory: Vec<u8>,
-}
-
-impl World {
-    /// All zeros, as before a reset.
-    pub fn zeros(table: usize, memory: usize) -> World {
-        World { state: State::default(), table: vec![0; table], memory: vec![0; memory] }
-    }
-
-    /// Serves one request by the proved code.
-    pub fn serve(&mut self, request: &Words, buffer: &mut [u8]) -> Reply {
-        bridge::serve(request, &mut self.state, &mut self.table, &mut self.memory, buffer)
-    }
-}
-
-/// A request and the buffer lent with it.
-#[derive(Clone, Debug, PartialEq, Eq)]
-pub struct Step {
-    pub request: Words,
-    pub buffer: Vec<u8>,
-}
-
-/// A start and requests; each works on what the last one left.
-#[derive(Clone, Debug, PartialEq, Eq)]
-pub struct Session {
-    pub world: World,
-    pub steps: Vec<Step>,
-}
+pub use world::{replace, Session, Step, World};

@@ -1,25 +1,13 @@
 //! Playing a script: asking its requests one by one, and comparing what is expected.
 
+use crate::entry;
+use crate::server::Server;
 use crate::text::{
     changes, print_standing, token_text, Ask, EntryLine, Expected, Names, Script, Standing,
     Unresolved, Word,
 };
-use crate::{entry, World};
+use crate::world::World;
 use bridge::{refusal_words, Place, Reply, Words};
-
-/// Whoever serves requests: the proved code, the model, a simulator.
-pub trait Server {
-    fn serve(&mut self, request: &Words, world: &mut World, buffer: &mut [u8]) -> Reply;
-}
-
-/// The proved code.
-pub struct Proved;
-
-impl Server for Proved {
-    fn serve(&mut self, request: &Words, world: &mut World, buffer: &mut [u8]) -> Reply {
-        world.serve(request, buffer)
-    }
-}
 
 /// What came of one request.
 #[derive(Clone, Debug, PartialEq, Eq)]

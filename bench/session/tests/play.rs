@@ -1,6 +1,7 @@
 //! Playing scripts: what is expected, and what is marked.
 
-use session::play::{goes_as_expected, record, Player, Proved};
+use session::play::{goes_as_expected, record, Player};
+use session::server::Proved;
 use session::text::{parse, print_script, Script, Unresolved};
 
 fn script(lines: &str) -> Script {

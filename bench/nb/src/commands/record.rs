@@ -7,7 +7,8 @@ use std::path::Path;
 use super::{Command, Failure, Verdict};
 use crate::arguments::Arguments;
 use crate::stored::{self, Stored};
-use session::play::{record, NotRecorded, Proved};
+use session::play::{record, NotRecorded};
+use session::server::Proved;
 use session::text::{parse, print_script};
 
 pub const COMMAND: Command = Command {

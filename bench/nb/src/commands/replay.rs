@@ -7,9 +7,9 @@ use super::{Command, Failure, Verdict};
 use crate::answer::answer_text;
 use crate::arguments::Arguments;
 use crate::map;
-use crate::model_server::Model;
 use crate::style::Style;
-use session::play::{Difference, Played, Player, Proved, Server};
+use session::play::{Difference, Played, Player};
+use session::server::{Model, Proved, Server};
 use session::text::{parse, print_request, Ask, Script, Unresolved};
 
 pub const COMMAND: Command = Command {

@@ -5,7 +5,8 @@ use std::io::Write;
 use super::{replay, Command, Failure, Verdict};
 use crate::arguments::Arguments;
 use bridge::Operation;
-use session::play::{search, Proved};
+use session::play::search;
+use session::server::Proved;
 use session::text::print_script;
 use session::text::Word;
 

@@ -2,7 +2,7 @@
 
 use super::script::{EntryLine, Standing, StatedState};
 use crate::entry::{self, Field, ENTRY};
-use crate::World;
+use crate::world::World;
 use std::ops::Range;
 
 /// Unchanged bytes that part two runs; fewer are written along.

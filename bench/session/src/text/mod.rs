@@ -28,7 +28,7 @@ pub use script::{
 
 pub use words::{number, number_text, permissions_text, token_text};
 
-use crate::Session;
+use crate::world::Session;
 use bridge::Reply;
 use lines::Line;
 

@@ -12,7 +12,7 @@ use super::parse_expected::expected;
 use super::parse_standing::key;
 use super::script::{Ask, Word};
 use super::{comments, words, FILL};
-use crate::Step;
+use crate::world::Step;
 use bridge::{Argument, Buffer, Operation, Words};
 
 /// What is expected where a request begins.

@@ -7,7 +7,7 @@ use super::change::changes;
 use super::words;
 use crate::entry::{self, Field, ENTRY};
 use crate::token::Token;
-use crate::{Session, Step, World};
+use crate::world::{Session, Step, World};
 use bridge::{Argument, Operation, Reply, State, Words};
 
 /// A start, and requests with what is expected of them.

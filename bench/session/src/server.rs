@@ -1,0 +1,59 @@
+//! Who serves requests in this process: the proved code, and the model. Here alone the model's
+//! types stand beside the wrapper's.
+
+use bridge::{Reply, State, Words};
+
+use crate::world::World;
+
+/// Whoever serves requests: the proved code, the model, a simulator.
+pub trait Server {
+    fn serve(&mut self, request: &Words, world: &mut World, buffer: &mut [u8]) -> Reply;
+}
+
+/// The proved code.
+pub struct Proved;
+
+impl Server for Proved {
+    fn serve(&mut self, request: &Words, world: &mut World, buffer: &mut [u8]) -> Reply {
+        world.serve(request, buffer)
+    }
+}
+
+/// The second implementation.
+pub struct Model;
+
+impl Server for Model {
+    fn serve(&mut self, request: &Words, world: &mut World, buffer: &mut [u8]) -> Reply {
+        let World { state, table, memory } = world;
+        let mut kept = model_state(state);
+        let answer = model::serve(model_request(request), &mut kept, table, memory, buffer);
+        *state = state_of_model(&kept);
+        reply_of_model(&answer)
+    }
+}
+
+/// A request as the model has it.
+#[inline]
+pub fn model_request(request: &Words) -> model::Request {
+    let Words { operation, token, second, task, length, user, permissions, encoding } = *request;
+    model::Request { operation, token, second, task, length, user, permissions, encoding }
+}
+
+/// A state as the model has it.
+#[inline]
+pub fn model_state(state: &State) -> model::State {
+    let State { key: [key0, key1], last_number: last, next_nonce: next } = *state;
+    model::State { key0, key1, last, next }
+}
+
+#[inline]
+pub fn state_of_model(state: &model::State) -> State {
+    let model::State { key0, key1, last, next } = *state;
+    State { key: [key0, key1], last_number: last, next_nonce: next }
+}
+
+#[inline]
+pub fn reply_of_model(answer: &model::Answer) -> Reply {
+    let model::Answer { refusal, place, first, second, dropped } = *answer;
+    Reply { refusal, place, first, second, dropped }
+}
