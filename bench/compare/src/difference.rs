@@ -3,6 +3,7 @@
 use std::fmt;
 
 use bridge::{Reply, State};
+use session::entry::SIZE;
 
 use crate::machine::Trouble;
 
@@ -60,7 +61,7 @@ impl fmt::Display for Difference {
             Difference::Byte { part, at, values: [mine, theirs] } => {
                 write!(f, "byte {at} of the {part} differs")?;
                 if *part == "table" {
-                    write!(f, " (entry {}, byte {} of it)", at / 32, at % 32)?;
+                    write!(f, " (entry {}, byte {} of it)", at / SIZE, at % SIZE)?;
                 }
                 write!(f, "\n  proved code: {mine:02x}\n  the other:   {theirs:02x}")
             }

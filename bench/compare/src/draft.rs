@@ -2,9 +2,9 @@
 //! they stay right when the requests before them change.
 
 use bridge::{Argument, Operation, Reply, Words};
+use session::token::{self, Token};
 use session::{Session, Step, World};
 
-use crate::entry;
 use crate::pair::Pair;
 use crate::player::Found;
 
@@ -98,22 +98,23 @@ impl Source {
             return word;
         };
         let given = if second { reply.second } else { reply.first };
-        let [_, tag, number, _] = entry::unpack(given);
-        entry::pack(encoding, tag ^ flip, number, offset)
+        let Token { tag, number, .. } = Token::unpack(given);
+        token::packed(encoding, tag ^ flip, number, offset)
     }
 }
 
 /// The latest request that gave a token of this number and tag, or of a tag with one bit flipped.
 fn source(replies: &Replies, word: u64) -> Source {
-    let [encoding, tag, number, offset] = entry::unpack(word);
-    if (tag, number) == (0, 0) {
+    let token = Token::unpack(word);
+    let Token { encoding, offset, .. } = token;
+    if (token.tag, token.number) == (0, 0) {
         return Source::Word;
     }
     for (name, reply) in replies.iter().rev() {
         for (second, given) in [(false, reply.first), (true, reply.second)] {
-            let [_, given_tag, given_number, _] = entry::unpack(given);
-            let flip = tag ^ given_tag;
-            if given != 0 && number == given_number && flip.count_ones() < 2 {
+            let other = Token::unpack(given);
+            let flip = token.tag ^ other.tag;
+            if given != 0 && token.number == other.number && flip.count_ones() < 2 {
                 return Source::Given { part: *name, second, encoding, offset, flip };
             }
         }

@@ -4,8 +4,9 @@
 use std::fmt;
 
 use bridge::{Check, Operation, Place, Reply, State, Words};
+use session::entry::{self, Entry};
+use session::token::Token;
 
-use crate::entry::{self, Entry};
 use crate::machine::Machine;
 use crate::worlds::SPENT;
 
@@ -127,7 +128,7 @@ struct Seen<'a> {
 
 impl Seen<'_> {
     fn named(&self) -> usize {
-        entry::unpack(self.request.token)[2] as usize
+        Token::unpack(self.request.token).number as usize
     }
 
     fn entry(&self, number: usize) -> Entry {
@@ -144,7 +145,8 @@ impl Seen<'_> {
         if (self.reply.refusal, self.reply.place) != named {
             return false;
         }
-        let [_, tag, number, _] = entry::unpack(self.entry(self.named()).get(entry::PARENT));
+        let link = self.entry(self.named()).get(entry::PARENT);
+        let Token { tag, number, .. } = Token::unpack(link);
         let parent = self.entry(number as usize);
         !parent.is_free() && parent.get(entry::TAG) == tag
     }
@@ -157,7 +159,7 @@ impl Seen<'_> {
     /// How many links stand above the named entry, whose line is whole.
     fn links(&self) -> usize {
         let above = |entry: &Entry| {
-            let parent = entry::unpack(entry.get(entry::PARENT))[2] as usize;
+            let parent = Token::unpack(entry.get(entry::PARENT)).number as usize;
             Some(self.entry(parent)).filter(|_| entry.kind() == entry::INDIRECT)
         };
         std::iter::successors(Some(self.entry(self.named())), above).skip(1).take(1_024).count()

@@ -9,7 +9,6 @@ mod coverage;
 mod dice;
 mod difference;
 mod draft;
-mod entry;
 mod events;
 mod fault;
 mod guard;
@@ -21,6 +20,7 @@ pub mod protocol;
 mod run;
 mod server;
 mod shrink;
+mod tag;
 mod wild;
 mod worlds;
 

@@ -5,12 +5,12 @@
 use std::fmt;
 
 use bridge::{Check, Operation, Reply, Words};
+use session::entry::{self, Entry};
 use session::{Session, Step, World};
 
 use crate::coverage::Coverage;
 use crate::dice::Dice;
 use crate::difference::Difference;
-use crate::entry::{self, Entry};
 use crate::pair::Pair;
 
 /// A session, cut off after the request that shows the difference.

@@ -3,11 +3,11 @@
 //! the same one.
 
 use bridge::{Operation, State, Words};
+use session::entry::SIZE;
 use session::World;
 
 use crate::difference::Difference;
 use crate::draft::{Draft, Part, Source};
-use crate::entry::SIZE;
 use crate::machine::Trouble;
 use crate::pair::Pair;
 use crate::player::Found;

@@ -2,8 +2,9 @@
 //! then a little or far off.
 
 use bridge::{Argument, Operation, Words};
+use session::entry::{self, Entry};
+use session::token::{self, Token};
 
-use crate::entry::{self, Entry};
 use crate::player::Player;
 
 /// How often each operation is asked.
@@ -114,8 +115,8 @@ pub fn token(player: &mut Player, number: usize, entry: &Entry) -> u64 {
     let right = entry.token(number, encoding);
     match player.dice.below(64) {
         0 => right ^ 1 << player.dice.below(64),
-        1 => entry::pack(encoding, player.dice.word(), number as u64, 0),
-        2 => entry::pack(encoding, entry.get(entry::TAG), number as u64, player.dice.below(9)),
+        1 => token::packed(encoding, player.dice.word(), number as u64, 0),
+        2 => token::packed(encoding, entry.get(entry::TAG), number as u64, player.dice.below(9)),
         3 => beyond(player, entry),
         4 => player.dice.word(),
         5 => 0,
@@ -132,7 +133,7 @@ fn beyond(player: &mut Player, entry: &Entry) -> u64 {
     let end = player.entries() as u64;
     let number = player.dice.one_of(&[end, end + 1, 1_023, 1_024, 16_383, 1 << 14, 1 << 22]);
     let tag = player.dice.one_of(&[0, entry.get(entry::TAG)]);
-    entry::pack(player.dice.below(4), tag, number, 0)
+    token::packed(player.dice.below(4), tag, number, 0)
 }
 
 pub fn task(player: &mut Player) -> u64 {
@@ -196,7 +197,7 @@ fn buffer_length(player: &mut Player, whole: u64) -> usize {
 
 /// Moves a token's offset, if its encoding has one, to a place where the access may stand.
 fn with_offset(player: &mut Player, token: u64, whole: u64, buffer: u64) -> u64 {
-    let [encoding, tag, number, offset] = entry::unpack(token);
+    let Token { encoding, tag, number, offset } = Token::unpack(token);
     let last = whole.saturating_sub(buffer);
     let offset = match player.dice.below(16) {
         0 => last + 1,
@@ -205,7 +206,7 @@ fn with_offset(player: &mut Player, token: u64, whole: u64, buffer: u64) -> u64 
         5..=8 => offset,
         _ => player.dice.between(0, last),
     };
-    entry::pack(encoding, tag, number, offset)
+    token::packed(encoding, tag, number, offset)
 }
 
 fn words(player: &mut Player, operation: Operation, number: usize, entry: &Entry) -> Words {

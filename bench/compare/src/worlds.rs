@@ -1,9 +1,9 @@
 //! Worlds that the kinds of sessions start from.
 
 use bridge::State;
+use session::entry::{self, Entry};
 use session::World;
 
-use crate::entry::{self, Entry};
 use crate::player::Player;
 use crate::wild;
 

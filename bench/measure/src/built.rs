@@ -1,7 +1,7 @@
 //! Worlds to measure in, built by requests that are granted.
 
 use bridge::Request;
-use session::World;
+use session::{entry, World};
 
 /// R 4, W 2, X 1, added.
 pub const ALL: u64 = 7;
@@ -16,7 +16,7 @@ pub struct Built {
 impl Built {
     /// A table of so many entries over a memory of so many bytes, after a reset.
     pub fn new(entries: usize, memory: usize) -> Built {
-        let mut built = Built { world: World::zeros(32 * entries, memory) };
+        let mut built = Built { world: World::zeros(entry::SIZE * entries, memory) };
         built.ask(&Request::Reset { key: KEY, first_nonce: 1 });
         built
     }

@@ -3,6 +3,7 @@
 //! what the model refuses is kept.
 
 use bridge::{Operation, Request, Words, ANSWER_BYTES};
+use session::entry::{self, Entry};
 use session::server::{Model, Server};
 use session::World;
 
@@ -104,33 +105,30 @@ fn standings(world: &World) -> Vec<(&'static str, World)> {
         change(&mut world);
         world
     };
-    let flag = |number: usize, bit: u8| {
-        changed(&move |world: &mut World| world.table[32 * number + 25] ^= bit)
+    let entry = |number: usize, change: fn(Entry) -> Entry| {
+        changed(&move |world: &mut World| put(world, number, change))
     };
     vec![
-        ("no free number", changed(&|world| world.table.chunks_mut(32).skip(4).for_each(fill))),
+        ("no free number", changed(&|world| (4..8).for_each(|number| put(world, number, fill)))),
         ("no nonce", changed(&|world| world.state.next_nonce = 1 << 32)),
         ("a broken state", changed(&|world| world.state.last_number = 8)),
-        ("owner ill-formed", flag(SEGMENT, 1)),
-        ("child ill-formed", flag(CHILD, 1)),
-        ("owner not lockable", flag(SEGMENT, 2)),
-        ("child's link missing", changed(&|world| world.table[32 * CHILD + 28..][..4].fill(0))),
-        ("owner's count full", changed(&|world| count(world, SEGMENT, 8, 0xffff))),
-        ("owner's count 0", changed(&|world| count(world, SEGMENT, 8, 0))),
-        ("child's count full", changed(&|world| count(world, CHILD, 16, 0xffff))),
+        ("owner ill-formed", entry(SEGMENT, |owner| owner.with(entry::COPY_ON_WRITE, 1))),
+        ("child ill-formed", entry(CHILD, |child| child.with(entry::COPY_ON_WRITE, 1))),
+        ("owner not lockable", entry(SEGMENT, |owner| owner.with(entry::LOCKABLE, 0))),
+        ("child's link missing", entry(CHILD, |child| child.with(entry::NONCE, 0))),
+        ("owner's count full", entry(SEGMENT, |owner| owner.with_count(0xffff))),
+        ("owner's count 0", entry(SEGMENT, |owner| owner.with_count(0))),
+        ("child's count full", entry(CHILD, |child| child.with_count(0xffff))),
     ]
 }
 
-/// The entry becomes one in use, though ill-formed.
-fn fill(entry: &mut [u8]) {
-    entry[0] = 0xe0;
+fn put(world: &mut World, number: usize, change: fn(Entry) -> Entry) {
+    change(Entry::of(&world.table, number)).store(&mut world.table, number);
 }
 
-/// The count stands after three bits of the word that begins at the byte.
-fn count(world: &mut World, number: usize, byte: usize, count: u64) {
-    let (words, _) = world.table[32 * number..][byte..].as_chunks_mut::<8>();
-    let word = u64::from_be_bytes(words[0]) & !(0xffff << 45) | count << 45;
-    words[0] = word.to_be_bytes();
+/// The entry becomes one in use, though ill-formed.
+fn fill(entry: Entry) -> Entry {
+    entry.with(entry::KIND, 7)
 }
 
 /// What is asked, with the buffer's length.

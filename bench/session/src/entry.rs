@@ -1,7 +1,39 @@
-//! Entries: the fields of Table 2 at their places in the 32 bytes.
+//! Entries: the fields of Table 2 at their places in the 32 bytes. The bench writes and reads entries
+//! here alone; the model, which is a second implementation, has its own.
 
-pub const ENTRY: usize = 32;
-pub type Bytes = [u8; ENTRY];
+use crate::token;
+
+pub const SIZE: usize = 32;
+
+/// Bits of an entry: the first, counted from the top bit of byte 0, and how many.
+#[derive(Clone, Copy, Debug, PartialEq, Eq)]
+pub struct Bits(usize, usize);
+
+impl Bits {
+    pub fn width(self) -> usize {
+        self.1
+    }
+}
+
+pub const KIND: Bits = Bits(0, 3);
+/// At the same places in every type.
+pub const BASE: Bits = Bits(3, 32);
+pub const PERMISSIONS: Bits = Bits(202, 3);
+pub const LOCKED: Bits = Bits(205, 1);
+pub const LOCKABLE: Bits = Bits(206, 1);
+pub const COPY_ON_WRITE: Bits = Bits(207, 1);
+pub const TAG: Bits = Bits(208, 16);
+pub const NONCE: Bits = Bits(224, 32);
+/// Of a direct entry.
+pub const HOLDER: Bits = Bits(83, 55);
+pub const USER: Bits = Bits(138, 64);
+const DIRECT_LENGTH: Bits = Bits(35, 32);
+const DIRECT_COUNT: Bits = Bits(67, 16);
+/// Of an indirect entry.
+pub const PARENT: Bits = Bits(35, 64);
+const INDIRECT_LENGTH: Bits = Bits(99, 32);
+const INDIRECT_COUNT: Bits = Bits(131, 16);
+const ZEROS: Bits = Bits(147, 55);
 
 pub const FREE: u64 = 0;
 pub const DIRECT: u64 = 1;
@@ -25,104 +57,197 @@ pub enum Field {
     Nonce,
 }
 
-/// A field with its first bit, counted from the top bit of byte 0, and its width.
-type Place = (Field, usize, usize);
+/// A type of entries in use.
+#[derive(Debug)]
+pub struct Type {
+    pub kind: u64,
+    pub name: &'static str,
+    /// Its fields, in the order in which they are written.
+    pub fields: &'static [(Field, Bits)],
+}
 
-const DIRECT_PLACES: [Place; 11] = [
-    (Field::Base, 3, 32),
-    (Field::Length, 35, 32),
-    (Field::Count, 67, 16),
-    (Field::Holder, 83, 55),
-    (Field::User, 138, 64),
-    (Field::Permissions, 202, 3),
-    (Field::Locked, 205, 1),
-    (Field::Lockable, 206, 1),
-    (Field::Cow, 207, 1),
-    (Field::Tag, 208, 16),
-    (Field::Nonce, 224, 32),
+/// Every type that is not ill-formed by its number.
+pub const TYPES: &[Type] = &[
+    Type {
+        kind: DIRECT,
+        name: "direct",
+        fields: &[
+            (Field::Base, BASE),
+            (Field::Length, DIRECT_LENGTH),
+            (Field::Count, DIRECT_COUNT),
+            (Field::Holder, HOLDER),
+            (Field::User, USER),
+            (Field::Permissions, PERMISSIONS),
+            (Field::Locked, LOCKED),
+            (Field::Lockable, LOCKABLE),
+            (Field::Cow, COPY_ON_WRITE),
+            (Field::Tag, TAG),
+            (Field::Nonce, NONCE),
+        ],
+    },
+    Type {
+        kind: INDIRECT,
+        name: "indirect",
+        fields: &[
+            (Field::Base, BASE),
+            (Field::Length, INDIRECT_LENGTH),
+            (Field::Parent, PARENT),
+            (Field::Count, INDIRECT_COUNT),
+            (Field::Zeros, ZEROS),
+            (Field::Permissions, PERMISSIONS),
+            (Field::Locked, LOCKED),
+            (Field::Lockable, LOCKABLE),
+            (Field::Cow, COPY_ON_WRITE),
+            (Field::Tag, TAG),
+            (Field::Nonce, NONCE),
+        ],
+    },
 ];
 
-const INDIRECT_PLACES: [Place; 11] = [
-    (Field::Base, 3, 32),
-    (Field::Length, 99, 32),
-    (Field::Parent, 35, 64),
-    (Field::Count, 131, 16),
-    (Field::Zeros, 147, 55),
-    (Field::Permissions, 202, 3),
-    (Field::Locked, 205, 1),
-    (Field::Lockable, 206, 1),
-    (Field::Cow, 207, 1),
-    (Field::Tag, 208, 16),
-    (Field::Nonce, 224, 32),
-];
+impl Type {
+    pub fn of(kind: u64) -> Option<&'static Type> {
+        TYPES.iter().find(|one| one.kind == kind)
+    }
 
-/// The type in the top three bits: 0 free, 1 direct, 2 indirect, above is ill-formed.
-pub fn kind(entry: &Bytes) -> u64 {
-    bits(entry, 0, 3)
-}
+    pub fn named(name: &str) -> Option<&'static Type> {
+        TYPES.iter().find(|one| one.name == name)
+    }
 
-pub fn of_kind(kind: u64) -> Bytes {
-    let mut entry = [0; ENTRY];
-    set_bits(&mut entry, 0, 3, kind);
-    entry
-}
-
-/// The fields of a type, in the order in which they are written. Other types have none.
-pub fn places(kind: u64) -> &'static [Place] {
-    match kind {
-        DIRECT => &DIRECT_PLACES,
-        INDIRECT => &INDIRECT_PLACES,
-        _ => &[],
+    /// Where a field is; none if the type has no such field.
+    pub fn place(&self, field: Field) -> Option<Bits> {
+        self.fields.iter().find(|(own, _)| *own == field).map(|(_, bits)| *bits)
     }
 }
 
-fn place(entry: &Bytes, field: Field) -> Option<(usize, usize)> {
-    let found = places(kind(entry)).iter().find(|place| place.0 == field);
-    found.map(|&(_, from, width)| (from, width))
-}
+/// The 32 bytes of an entry.
+#[derive(Clone, Copy, Debug, Default, PartialEq, Eq)]
+pub struct Entry(pub [u8; SIZE]);
 
-/// How many bits a field has in the entry's type; none if the type has no such field.
-pub fn width(entry: &Bytes, field: Field) -> Option<usize> {
-    place(entry, field).map(|(_, width)| width)
-}
-
-/// A field's value; 0 if the entry's type has no such field.
-pub fn get(entry: &Bytes, field: Field) -> u64 {
-    place(entry, field).map_or(0, |(from, width)| bits(entry, from, width))
-}
-
-/// Sets a field's low bits; nothing happens if the entry's type has no such field.
-pub fn set(entry: &mut Bytes, field: Field, value: u64) {
-    if let Some((from, width)) = place(entry, field) {
-        set_bits(entry, from, width, value);
+impl Entry {
+    /// The entry of a number; none beyond the table's whole entries.
+    pub fn at(table: &[u8], number: usize) -> Option<Entry> {
+        let from = number.checked_mul(SIZE)?;
+        table.get(from..from.checked_add(SIZE)?)?.try_into().ok().map(Entry)
     }
-}
 
-/// Tag and nonce stand at the same places in every type.
-pub fn tag(entry: &Bytes) -> u64 {
-    bits(entry, 208, 16)
-}
-
-pub fn nonce(entry: &Bytes) -> u64 {
-    bits(entry, 224, 32)
-}
-
-fn bits(entry: &Bytes, from: usize, width: usize) -> u64 {
-    (from..from + width)
-        .fold(0, |value, at| value << 1 | u64::from(entry[at / 8] >> (7 - at % 8) & 1))
-}
-
-fn set_bits(entry: &mut Bytes, from: usize, width: usize, value: u64) {
-    for at in from..from + width {
-        let bit = (value >> (from + width - 1 - at) & 1) as u8;
-        entry[at / 8] = entry[at / 8] & !(0x80 >> (at % 8)) | bit << (7 - at % 8);
+    /// The entry of a number; zeros beyond the table.
+    pub fn of(table: &[u8], number: usize) -> Entry {
+        Entry::at(table, number).unwrap_or_default()
     }
-}
 
-/// The entry of a number; none beyond the table's whole entries.
-pub fn at(table: &[u8], number: usize) -> Option<Bytes> {
-    let from = number.checked_mul(ENTRY)?;
-    table.get(from..from.checked_add(ENTRY)?)?.try_into().ok()
+    /// Puts the entry into a table, if the number is inside it.
+    pub fn store(&self, table: &mut [u8], number: usize) {
+        if let Some(part) = table.get_mut(SIZE * number..SIZE * (number + 1)) {
+            part.copy_from_slice(&self.0);
+        }
+    }
+
+    /// An entry of a type, all else zero.
+    pub fn of_kind(kind: u64) -> Entry {
+        Entry::default().with(KIND, kind)
+    }
+
+    /// A direct entry, unlocked, with count 0, R W X, Lockable.
+    pub fn direct(base: u64, length: u64) -> Entry {
+        let entry = Entry::of_kind(DIRECT).with(BASE, base);
+        entry.with_length(length).with(PERMISSIONS, 7).with(LOCKABLE, 1)
+    }
+
+    /// An indirect entry with count 1 and R W X.
+    pub fn indirect(base: u64, length: u64, parent: u64) -> Entry {
+        let entry = Entry::of_kind(INDIRECT).with(BASE, base).with(PARENT, parent);
+        entry.with_length(length).with_count(1).with(PERMISSIONS, 7)
+    }
+
+    /// Two words from one on, the first above the second; zeros behind the end.
+    fn words(&self, index: usize) -> u128 {
+        let (words, _) = self.0.as_chunks::<8>();
+        let word = |at: usize| words.get(at).map_or(0, |bytes| u64::from_be_bytes(*bytes));
+        u128::from(word(index)) << 64 | u128::from(word(index + 1))
+    }
+
+    pub fn get(&self, Bits(from, width): Bits) -> u64 {
+        let both = self.words(from / 64);
+        ((both << (from % 64)) >> (128 - width)) as u64
+    }
+
+    /// The entry with other bits; what does not fit is cut off.
+    #[must_use]
+    pub fn with(mut self, Bits(from, width): Bits, value: u64) -> Entry {
+        let (index, shift) = (from / 64, 128 - from % 64 - width);
+        let mask = (u128::MAX >> (128 - width)) << shift;
+        let both = self.words(index) & !mask | (u128::from(value) << shift) & mask;
+        for (place, byte) in self.0.iter_mut().skip(8 * index).zip(both.to_be_bytes()) {
+            *place = byte;
+        }
+        self
+    }
+
+    /// 0 free; what is no type's number is ill-formed.
+    pub fn kind(&self) -> u64 {
+        self.get(KIND)
+    }
+
+    pub fn is_free(&self) -> bool {
+        self.kind() == FREE
+    }
+
+    /// Where a field is; none if the entry's type has no such field.
+    pub fn place(&self, field: Field) -> Option<Bits> {
+        Type::of(self.kind()).and_then(|own| own.place(field))
+    }
+
+    /// A field's value; 0 if the entry's type has no such field.
+    pub fn field(&self, field: Field) -> u64 {
+        self.place(field).map_or(0, |bits| self.get(bits))
+    }
+
+    /// The entry with another value in a field; the same if its type has no such field.
+    #[must_use]
+    pub fn with_field(self, field: Field, value: u64) -> Entry {
+        self.place(field).map_or(self, |bits| self.with(bits, value))
+    }
+
+    /// Where length and count are; where no type is told, as in a direct entry.
+    fn length_bits(&self) -> Bits {
+        self.place(Field::Length).unwrap_or(DIRECT_LENGTH)
+    }
+
+    fn count_bits(&self) -> Bits {
+        self.place(Field::Count).unwrap_or(DIRECT_COUNT)
+    }
+
+    pub fn length(&self) -> u64 {
+        self.get(self.length_bits())
+    }
+
+    pub fn count(&self) -> u64 {
+        self.get(self.count_bits())
+    }
+
+    #[must_use]
+    pub fn with_length(self, length: u64) -> Entry {
+        self.with(self.length_bits(), length)
+    }
+
+    #[must_use]
+    pub fn with_count(self, count: u64) -> Entry {
+        self.with(self.count_bits(), count)
+    }
+
+    #[must_use]
+    pub fn locked_for(self, holder: u64) -> Entry {
+        self.with(HOLDER, holder).with(LOCKED, u64::from(holder != 0))
+    }
+
+    pub fn end(&self) -> u64 {
+        self.get(BASE) + self.length()
+    }
+
+    /// The token in an encoding, by the entry's present tag.
+    pub fn token(&self, number: usize, encoding: u64) -> u64 {
+        token::packed(encoding, self.get(TAG), number as u64, 0)
+    }
 }
 
 #[cfg(test)]
@@ -130,26 +255,35 @@ mod tests {
     use super::*;
 
     #[test]
-    fn the_root_over_65_536_bytes() {
-        let mut root = of_kind(DIRECT);
-        set(&mut root, Field::Length, 65_536);
-        set(&mut root, Field::Permissions, 7);
-        set(&mut root, Field::Lockable, 1);
-        let mut wanted = [0; ENTRY];
-        (wanted[0], wanted[6], wanted[25]) = (0x20, 0x20, 0x3A);
-        assert_eq!(root, wanted);
+    fn the_root_entry_of_01() {
+        let mut root = [0; SIZE];
+        (root[0], root[6], root[25]) = (0x20, 0x20, 0x3A);
+        assert_eq!(Entry::direct(0, 65_536), Entry(root));
     }
 
     /// Every bit behind the type belongs to exactly one field, so that fields fix an entry.
     #[test]
     fn fields_cover_the_entry_once() {
-        for kind in [DIRECT, INDIRECT] {
-            let mut covered = [0; 256];
-            for &(_, from, width) in places(kind) {
-                covered[from..from + width].iter_mut().for_each(|times| *times += 1);
+        for one in TYPES {
+            let mut covered = [0; 8 * SIZE];
+            for (_, Bits(from, width)) in one.fields {
+                covered[*from..from + width].iter_mut().for_each(|times| *times += 1);
             }
             assert_eq!(covered[..3], [0; 3]);
             assert_eq!(covered[3..], [1; 253]);
+        }
+    }
+
+    #[test]
+    fn fields_are_read_as_they_were_written() {
+        let fields = TYPES.iter().flat_map(|one| one.fields).map(|(_, bits)| *bits);
+        for bits in fields.chain([KIND]) {
+            let ones = u64::MAX >> (64 - bits.width());
+            assert_eq!(Entry([0; SIZE]).with(bits, ones).get(bits), ones);
+            assert_eq!(Entry([0xFF; SIZE]).with(bits, 0).get(bits), 0);
+            let set = Entry([0; SIZE]).with(bits, ones);
+            let count: u32 = set.0.iter().map(|byte| byte.count_ones()).sum();
+            assert_eq!(count as usize, bits.width());
         }
     }
 }

@@ -1,6 +1,6 @@
 //! Playing a script: asking its requests one by one, and comparing what is expected.
 
-use crate::entry;
+use crate::entry::Entry;
 use crate::server::Server;
 use crate::text::{
     changes, print_standing, token_text, Ask, EntryLine, Expected, Names, Script, Standing,
@@ -122,8 +122,8 @@ impl<'a, S: Server> Player<'a, S> {
             let Standing::Entry { number, line: EntryLine::Fields(fields) } = standing else {
                 return None;
             };
-            let given = entry::at(&self.world.table, *number)?;
-            let lacking = fields.iter().any(|(field, _)| entry::width(&given, *field).is_none());
+            let given = Entry::at(&self.world.table, *number)?;
+            let lacking = fields.iter().any(|(field, _)| given.place(*field).is_none());
             let line = EntryLine::Whole(given);
             lacking.then(|| {
                 Difference::of_standing(standing, &Standing::Entry { number: *number, line })

@@ -54,6 +54,13 @@ impl Token {
     }
 }
 
+/// A token from its fields; what does not fit its field is cut off.
+pub fn packed(encoding: u64, tag: u64, number: u64, offset: u64) -> u64 {
+    let width = OFFSET_WIDTHS[encoding as usize & 3];
+    let low = (number << width) & low_bits(NUMBER_AND_OFFSET) | offset & low_bits(width);
+    (encoding & 3) << 62 | (tag & low_bits(16)) << NUMBER_AND_OFFSET | low
+}
+
 fn fits(value: u64, width: u32, which: TooWide) -> Result<(), TooWide> {
     if value <= low_bits(width) {
         Ok(())
@@ -84,7 +91,10 @@ mod tests {
         let mut word = 1u64;
         for _ in 0..10_000 {
             word = word.wrapping_mul(0x5851_f42d_4c95_7f2d).wrapping_add(0x1405_7b7e_f767_814f);
-            assert_eq!(Token::unpack(word).pack(), Ok(word));
+            let token = Token::unpack(word);
+            assert_eq!(token.pack(), Ok(word));
+            let Token { encoding, tag, number, offset } = token;
+            assert_eq!(packed(encoding, tag, number, offset), word);
         }
     }
 

@@ -1,8 +1,8 @@
 //! Each bit of an entry flipped, one at a time, in a live table.
 
 use bridge::Operation;
+use session::entry;
 
-use crate::entry;
 use crate::player::Player;
 use crate::{wild, worlds};
 

@@ -1,9 +1,10 @@
 //! Counts at both ends. Only a handed-over table has them without 65,535 requests.
 
 use bridge::Operation;
+use session::entry;
 
 use crate::player::Player;
-use crate::{entry, wild, worlds};
+use crate::{wild, worlds};
 
 const COUNTS: [u64; 6] = [0, 1, 2, 3, 65_534, 65_535];
 

@@ -1,8 +1,8 @@
 //! Lines as deep as the table.
 
 use bridge::Operation;
+use session::entry;
 
-use crate::entry;
 use crate::player::Player;
 use crate::{wild, worlds};
 

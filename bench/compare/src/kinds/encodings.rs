@@ -2,8 +2,8 @@
 //! same modulo a width, and stale.
 
 use bridge::Operation;
+use session::token::{self, Token};
 
-use crate::entry;
 use crate::player::Player;
 use crate::{wild, worlds};
 
@@ -22,16 +22,16 @@ pub fn play(player: &mut Player) {
 }
 
 fn variants(player: &mut Player, token: u64) {
-    let [_, tag, number, _] = entry::unpack(token);
+    let Token { tag, number, .. } = Token::unpack(token);
     for encoding in 0..4 {
-        let right = entry::pack(encoding, tag, number, 0);
+        let right = token::packed(encoding, tag, number, 0);
         let wrapped = number + player.dice.one_of(&[1 << 14, 1 << 22, 1 << 30, 1 << 45]);
         let offset = player.dice.one_of(&[1, 8, 63, 64, 1 << 15, 1 << 23, 1 << 31]);
         ask(player, right);
         let bit = player.dice.below(64);
         ask(player, right ^ 1 << bit);
-        ask(player, entry::pack(encoding, tag, wrapped, 0));
-        ask(player, entry::pack(encoding, tag, number, offset));
+        ask(player, token::packed(encoding, tag, wrapped, 0));
+        ask(player, token::packed(encoding, tag, number, offset));
     }
 }
 

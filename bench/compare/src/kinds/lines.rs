@@ -1,9 +1,10 @@
 //! Lines of a few links with one bad link or entry at any height, asked through every entry.
 
 use bridge::Operation;
+use session::entry::{self, Entry};
+use session::token;
 use session::World;
 
-use crate::entry::{self, Entry};
 use crate::player::Player;
 use crate::{wild, worlds};
 
@@ -72,7 +73,7 @@ fn spoil(player: &mut Player, entry: Entry, fault: u64) -> Entry {
         6 => entry.with(entry::COPY_ON_WRITE, 1),
         7 => entry.with_count(0),
         8 => entry.with_count(2),
-        9 => entry.with(entry::PARENT, entry::pack(1, 0, 1 << player.dice.below(46), 0)),
+        9 => entry.with(entry::PARENT, token::packed(1, 0, 1 << player.dice.below(46), 0)),
         10 => entry.with(entry::KIND, 3).with(entry::NONCE, nonce + 1),
         _ => entry,
     }

@@ -1,9 +1,10 @@
 //! Locks through any token of a line, and every request under them.
 
 use bridge::Operation;
+use session::entry;
 
 use crate::player::Player;
-use crate::{entry, wild, worlds};
+use crate::{wild, worlds};
 
 pub fn play(player: &mut Player) {
     worlds::live(player, 20);

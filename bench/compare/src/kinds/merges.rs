@@ -2,8 +2,8 @@
 //! with other permissions, with children, and under locks.
 
 use bridge::{Operation, Words};
+use session::entry;
 
-use crate::entry;
 use crate::player::Player;
 use crate::{wild, worlds};
 

@@ -1,12 +1,12 @@
 //! Revokes that pass over nonces whose tag is the old one. Keys and nonces are found by search.
 
 use bridge::Operation;
+use session::entry::{self, Entry};
 use session::World;
 
-use crate::entry::{self, Entry};
 use crate::player::Player;
-use crate::wild;
 use crate::worlds::{self, SPENT};
+use crate::{tag, wild};
 
 const MEMORY: u64 = 64;
 
@@ -28,7 +28,7 @@ fn root(player: &mut Player, nonce: u64) {
     }
     let new = Entry::direct(0, MEMORY);
     let mut key = worlds::key(player);
-    while new.issued_tag(key, 0, nonce) != 0 {
+    while tag::issued(&new, key, 0, nonce) != 0 {
         key[0] = key[0].wrapping_add(1);
     }
     let world = worlds::dirty(player, 4, MEMORY as usize);
@@ -46,10 +46,10 @@ fn twice(player: &mut Player, nonce: u64) {
     let number = player.dice.between(0, 3) as usize;
     let new = Entry::direct(8, 16);
     let mut key = worlds::key(player);
-    while new.issued_tag(key, number, nonce) != new.issued_tag(key, number, nonce + 1) {
+    while tag::issued(&new, key, number, nonce) != tag::issued(&new, key, number, nonce + 1) {
         key[1] = key[1].wrapping_add(1);
     }
-    let tag = new.issued_tag(key, number, nonce);
+    let tag = tag::issued(&new, key, number, nonce);
     let old = new.with(entry::TAG, tag).with(entry::NONCE, 1).with(entry::USER, 9);
     let old = old.with_count(player.dice.below(3)).locked_for(player.dice.below(2));
     let mut world = World::zeros(4 * entry::SIZE, MEMORY as usize);

@@ -2,10 +2,10 @@
 //! with the rest's base.
 
 use bridge::Operation;
+use session::entry::Entry;
 
-use crate::entry::Entry;
 use crate::player::Player;
-use crate::{wild, worlds};
+use crate::{tag, wild, worlds};
 
 const MEMORY: u64 = 256;
 
@@ -13,7 +13,7 @@ pub fn play(player: &mut Player) {
     let part = player.dice.between(1, MEMORY - 1);
     let rest = Entry::direct(part, MEMORY - part);
     let mut key = worlds::key(player);
-    while rest.issued_tag(key, 0, 2) != 0 {
+    while tag::issued(&rest, key, 0, 2) != 0 {
         key[0] = key[0].wrapping_add(1);
     }
     let world = worlds::dirty(player, 5, MEMORY as usize);

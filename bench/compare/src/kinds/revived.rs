@@ -1,10 +1,11 @@
 //! A number that comes back with its old tag while a child still names it: the nonce decides.
 
 use bridge::Operation;
+use session::entry::{self, Entry};
+use session::token;
 
-use crate::entry::Entry;
 use crate::player::Player;
-use crate::{entry, wild, worlds};
+use crate::{tag, wild, worlds};
 
 const MEMORY: u64 = 2_048;
 
@@ -33,7 +34,7 @@ fn root(player: &mut Player) {
     }
     let revoked = Entry::direct(0, MEMORY);
     let mut key = worlds::key(player);
-    while revoked.issued_tag(key, 0, 3) != 0 || revoked.issued_tag(key, 0, 2) == 0 {
+    while tag::issued(&revoked, key, 0, 3) != 0 || tag::issued(&revoked, key, 0, 2) == 0 {
         key[0] = key[0].wrapping_add(1);
     }
     let world = worlds::dirty(player, 4, MEMORY as usize);
@@ -75,9 +76,10 @@ fn freed(player: &mut Player, grandchild: bool) {
 
 /// A part of the root whose entry, issued with number 1 and this nonce, has the tag.
 fn part_with_tag(key: [u64; 2], nonce: u64, tag: u64) -> Option<(u64, u64)> {
-    let parent = entry::pack(1, 0, 0, 0);
+    let parent = token::packed(1, 0, 0, 0);
     let parts = (1..MEMORY).flat_map(|length| (0..MEMORY - length).map(move |at| (at, length)));
     parts.into_iter().find(|(offset, length)| {
-        Entry::indirect(*offset, *length, parent).issued_tag(key, 1, nonce) == tag
+        let part = Entry::indirect(*offset, *length, parent);
+        tag::issued(&part, key, 1, nonce) == tag
     })
 }

@@ -1,9 +1,10 @@
 //! Segments full of bytes, revoked beside their neighbours: locked, with children, with a user.
 
 use bridge::Operation;
+use session::token::{self, Token};
 
 use crate::player::Player;
-use crate::{entry, wild, worlds};
+use crate::{wild, worlds};
 
 pub fn play(player: &mut Player) {
     let memory = player.dice.one_of(&[3, 64, 1_000, 4_096, 20_000]);
@@ -37,7 +38,7 @@ fn round(player: &mut Player) {
 fn fill(player: &mut Player, token: u64, length: u64) {
     let piece = length.clamp(1, 4_096) as usize;
     player.write(token, piece, 0);
-    let [_, tag, number, _] = entry::unpack(token);
+    let Token { tag, number, .. } = Token::unpack(token);
     let end = length.saturating_sub(piece as u64);
-    player.write(entry::pack(0, tag, number, end), piece, 0);
+    player.write(token::packed(0, tag, number, end), piece, 0);
 }

@@ -1,8 +1,8 @@
 //! Numbers going round: derived and dropped again, over free entries that hold rubbish.
 
 use bridge::Operation;
+use session::entry;
 
-use crate::entry;
 use crate::player::Player;
 use crate::{wild, worlds};
 

@@ -1,9 +1,9 @@
 //! Random bytes for everything, and random words for requests.
 
 use bridge::{Operation, State, Words};
+use session::entry;
 use session::World;
 
-use crate::entry;
 use crate::player::Player;
 use crate::{wild, worlds};
 

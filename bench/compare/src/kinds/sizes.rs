@@ -2,9 +2,9 @@
 //! limit of memory is that of the kind `large`.
 
 use bridge::{Operation, Words};
+use session::entry::{self, Entry};
 use session::World;
 
-use crate::entry::{self, Entry};
 use crate::player::Player;
 use crate::{wild, worlds};
 

@@ -1,8 +1,9 @@
 //! Lengths and offsets whose sums stand at a limit, or beyond 32 or 64 bits.
 
 use bridge::{Operation, Words};
+use session::entry;
+use session::token;
 
-use crate::entry;
 use crate::player::Player;
 use crate::{wild, worlds};
 
@@ -42,7 +43,7 @@ fn access(player: &mut Player, number: usize) {
     let ends = [0, whole.wrapping_sub(length), whole.wrapping_sub(length - 1), whole, u64::MAX];
     let offset = player.dice.one_of(&ends);
     let encoding = player.dice.below(4);
-    let token = entry::pack(encoding, entry.get(entry::TAG), number as u64, offset);
+    let token = token::packed(encoding, entry.get(entry::TAG), number as u64, offset);
     player.read(token, length as usize, 0);
 }
 

@@ -2,9 +2,10 @@
 //! or not, nonces in any order, overlapping segments, a field now and then ill-formed.
 
 use bridge::State;
+use session::entry::{self, Entry};
+use session::token;
 use session::World;
 
-use crate::entry::{self, Entry};
 use crate::player::Player;
 use crate::{wild, worlds};
 
@@ -63,7 +64,7 @@ fn parent(player: &mut Player, table: &[u8], entries: usize) -> u64 {
         0 => player.dice.below(4),
         _ => Entry::of(table, number as usize).get(entry::TAG),
     };
-    entry::pack(1, tag, number, 0)
+    token::packed(1, tag, number, 0)
 }
 
 /// One of the faults of form that 01 lists.

@@ -7,7 +7,7 @@ use super::judge::{judge, Judged, Link};
 use super::overview::{letter, overview};
 use super::tree::{branches, children};
 use crate::style::Style;
-use session::entry::{self, Bytes, Field};
+use session::entry::{self, Entry, Field, Type};
 use session::text::{number_text, permissions_text, Names};
 use session::token::Token;
 use session::World;
@@ -36,8 +36,8 @@ struct Map<'a> {
 }
 
 impl Map<'_> {
-    fn entry(&self, number: usize) -> Bytes {
-        entry::at(&self.world.table, number).unwrap_or_default()
+    fn entry(&self, number: usize) -> Entry {
+        Entry::of(&self.world.table, number)
     }
 
     /// The numbers of the entries that are of one kind.
@@ -104,8 +104,8 @@ impl Map<'_> {
 
     fn reach(&self, number: usize) -> Range<u64> {
         let entry = self.entry(number);
-        let base = entry::get(&entry, Field::Base);
-        base..base + entry::get(&entry, Field::Length)
+        let base = entry.field(Field::Base);
+        base..base + entry.field(Field::Length)
     }
 
     fn push_rule(&self, text: &mut String, address: u64, title: &str) {
@@ -143,7 +143,7 @@ impl Map<'_> {
     /// A number with the names that its present token has.
     fn title(&self, number: usize) -> String {
         let entry = self.entry(number);
-        let own = (number as u64, entry::tag(&entry));
+        let own = (number as u64, entry.get(entry::TAG));
         let is_own = |word: u64| {
             let token = Token::unpack(word);
             (token.number, token.tag) == own
@@ -160,9 +160,9 @@ impl Map<'_> {
 
     fn push_owner(&self, text: &mut String, number: usize) {
         let entry = self.entry(number);
-        let (length, user) = (entry::get(&entry, Field::Length), entry::get(&entry, Field::User));
+        let (length, user) = (entry.field(Field::Length), entry.field(Field::User));
         let mut line = format!("{} {length} bytes, {}", strip(0..length, length), rights(&entry));
-        if entry::get(&entry, Field::Lockable) != 0 {
+        if entry.field(Field::Lockable) != 0 {
             line.push_str(", Lockable");
         }
         if user != 0 {
@@ -170,8 +170,8 @@ impl Map<'_> {
         }
         line.push_str(&issued(&entry));
         self.push_line(text, &line);
-        if entry::get(&entry, Field::Locked) != 0 {
-            let holder = number_text(entry::get(&entry, Field::Holder));
+        if entry.field(Field::Locked) != 0 {
+            let holder = number_text(entry.field(Field::Holder));
             let lock = self.style.marked(&format!("LOCKED for task {holder}"));
             self.push_line(text, &lock);
         }
@@ -232,8 +232,8 @@ impl Map<'_> {
                 rights(&entry),
                 issued(&entry)
             );
-            let known = entry::kind(&entry) <= entry::INDIRECT;
-            let place = if known { place } else { format!("type {}", entry::kind(&entry)) };
+            let known = Type::of(entry.kind()).is_some();
+            let place = if known { place } else { format!("type {}", entry.kind()) };
             let title = self.title(number);
             let _ = writeln!(text, "    {title}: {place}\n        {}", self.style.wrong(reason));
         }
@@ -245,8 +245,8 @@ fn is_under_ill_formed(judged: &Judged) -> bool {
 }
 
 /// Permissions as three places, and the count.
-fn rights(entry: &Bytes) -> String {
-    let permissions = entry::get(entry, Field::Permissions);
+fn rights(entry: &Entry) -> String {
+    let permissions = entry.field(Field::Permissions);
     let letter = |letter: char| {
         let has = permissions_text(permissions).contains(letter);
         if has {
@@ -256,11 +256,11 @@ fn rights(entry: &Bytes) -> String {
         }
     };
     let letters: String = "RWX".chars().map(letter).collect();
-    format!("{letters}, count {}", entry::get(entry, Field::Count))
+    format!("{letters}, count {}", entry.field(Field::Count))
 }
 
-fn issued(entry: &Bytes) -> String {
-    format!(", tag {:#06x}, nonce {}", entry::tag(entry), entry::nonce(entry))
+fn issued(entry: &Entry) -> String {
+    format!(", tag {:#06x}, nonce {}", entry.get(entry::TAG), entry.get(entry::NONCE))
 }
 
 fn nonce_text(nonce: u64) -> String {

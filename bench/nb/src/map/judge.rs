@@ -1,6 +1,6 @@
 //! What each entry of a table is: free, ill-formed, a segment, or derived, alive or dead.
 
-use session::entry::{self, Bytes, Field, ENTRY};
+use session::entry::{self, Entry, Field};
 use session::token::{Token, PARENT_ENCODING};
 
 #[derive(Clone, Debug, PartialEq, Eq)]
@@ -24,12 +24,12 @@ pub enum Link {
 
 /// Every entry of a table, judged.
 pub fn judge(table: &[u8], memory: usize) -> Vec<Judged> {
-    let entries: Vec<Bytes> =
-        (0..table.len() / ENTRY).filter_map(|at| entry::at(table, at)).collect();
+    let entries: Vec<Entry> =
+        (0..table.len() / entry::SIZE).filter_map(|at| Entry::at(table, at)).collect();
     let mut judged: Vec<Judged> = entries.iter().map(|entry| alone(entry, memory)).collect();
     // The nonce falls at each link: by rising nonces every parent is judged before its children.
     let mut order: Vec<usize> = (0..entries.len()).collect();
-    order.sort_by_key(|number| entry::nonce(&entries[*number]));
+    order.sort_by_key(|number| entries[*number].get(entry::NONCE));
     for number in order {
         if let Judged::Indirect(_) = judged[number] {
             judged[number] = Judged::Indirect(link(&entries, &judged, number));
@@ -39,8 +39,8 @@ pub fn judge(table: &[u8], memory: usize) -> Vec<Judged> {
 }
 
 /// An entry by its own bytes; its line is not yet looked at.
-fn alone(entry: &Bytes, memory: usize) -> Judged {
-    match (entry::kind(entry), fault(entry, memory)) {
+fn alone(entry: &Entry, memory: usize) -> Judged {
+    match (entry.kind(), fault(entry, memory)) {
         (entry::FREE, _) => Judged::Free,
         (_, Some(fault)) => Judged::IllFormed(fault),
         (entry::DIRECT, _) => Judged::Direct,
@@ -49,9 +49,9 @@ fn alone(entry: &Bytes, memory: usize) -> Judged {
 }
 
 /// What makes an entry ill-formed.
-fn fault(entry: &Bytes, memory: usize) -> Option<&'static str> {
-    let get = |field| entry::get(entry, field);
-    let (kind, end) = (entry::kind(entry), get(Field::Base) + get(Field::Length));
+fn fault(entry: &Entry, memory: usize) -> Option<&'static str> {
+    let get = |field| entry.field(field);
+    let (kind, end) = (entry.kind(), get(Field::Base) + get(Field::Length));
     let (direct, indirect) = (kind == entry::DIRECT, kind == entry::INDIRECT);
     let encoding = Token::unpack(get(Field::Parent)).encoding;
     let flags = get(Field::Locked) + get(Field::Lockable);
@@ -71,14 +71,14 @@ fn fault(entry: &Bytes, memory: usize) -> Option<&'static str> {
 }
 
 /// Judges a link; the parent's own line was judged before if its nonce is lower.
-fn link(entries: &[Bytes], judged: &[Judged], number: usize) -> Link {
+fn link(entries: &[Entry], judged: &[Judged], number: usize) -> Link {
     let child = &entries[number];
-    let parent = Token::unpack(entry::get(child, Field::Parent));
+    let parent = Token::unpack(child.field(Field::Parent));
     let at = usize::try_from(parent.number).unwrap_or(usize::MAX);
     let Some(above) = entries.get(at) else {
         return Link::Dead(format!("its parent #{} is beyond the table", parent.number));
     };
-    let (tag, nonce) = (entry::tag(above), entry::nonce(above));
+    let (tag, nonce) = (above.get(entry::TAG), above.get(entry::NONCE));
     if judged[at] == Judged::Free {
         return Link::Dead(format!("its parent #{at} is free"));
     }
@@ -86,8 +86,8 @@ fn link(entries: &[Bytes], judged: &[Judged], number: usize) -> Link {
         let wanted = parent.tag;
         return Link::Dead(format!("its parent #{at} holds tag {tag:#06x}, not {wanted:#06x}"));
     }
-    if nonce >= entry::nonce(child) {
-        let own = entry::nonce(child);
+    let own = child.get(entry::NONCE);
+    if nonce >= own {
         return Link::Dead(format!("its parent #{at} has nonce {nonce}, which is not below {own}"));
     }
     match &judged[at] {

@@ -1,7 +1,7 @@
 //! What changed between two worlds, as the lines that state it.
 
 use super::script::{EntryLine, Standing, StatedState};
-use crate::entry::{self, Field, ENTRY};
+use crate::entry::{Entry, Field, Type, SIZE};
 use crate::world::World;
 use std::ops::Range;
 
@@ -17,7 +17,7 @@ pub fn changes(before: &World, now: &World) -> Vec<Standing> {
     let stated = (state != StatedState::default()).then_some(Standing::State(state));
     let mut lines: Vec<Standing> = stated.into_iter().collect();
     lines.extend(entries(&before.table, &now.table));
-    let whole = now.table.len() / ENTRY * ENTRY;
+    let whole = now.table.len() / SIZE * SIZE;
     lines.extend(runs(&before.table[whole..], &now.table[whole..]).into_iter().map(|run| {
         let (at, bytes) = (whole + run.start, now.table[whole..][run].to_vec());
         Standing::Table { at, bytes }
@@ -31,26 +31,27 @@ pub fn changes(before: &World, now: &World) -> Vec<Standing> {
 }
 
 fn entries(before: &[u8], now: &[u8]) -> Vec<Standing> {
-    let both = before.chunks_exact(ENTRY).zip(now.chunks_exact(ENTRY)).enumerate();
+    let both = before.chunks_exact(SIZE).zip(now.chunks_exact(SIZE)).enumerate();
     let changed = both.filter(|(_, (before, now))| before != now);
     changed
         .filter_map(|(number, (before, now))| {
-            let line = entry_change(before.try_into().ok()?, now.try_into().ok()?);
+            let [before, now] = [before.try_into().ok()?, now.try_into().ok()?].map(Entry);
+            let line = entry_change(&before, &now);
             Some(Standing::Entry { number, line })
         })
         .collect()
 }
 
 /// The fields that changed, or the whole entry if it was issued anew or its fields do not tell it.
-fn entry_change(before: &entry::Bytes, now: &entry::Bytes) -> EntryLine {
-    let kind = entry::kind(now);
-    let fields: Vec<(Field, u64)> = entry::places(kind)
+fn entry_change(before: &Entry, now: &Entry) -> EntryLine {
+    let places = Type::of(now.kind()).map_or(&[][..], |own| own.fields);
+    let fields: Vec<(Field, u64)> = places
         .iter()
-        .map(|place| (place.0, entry::get(now, place.0)))
-        .filter(|(field, value)| entry::get(before, *field) != *value)
+        .map(|(field, _)| (*field, now.field(*field)))
+        .filter(|(field, value)| before.field(*field) != *value)
         .collect();
     let issued = fields.iter().any(|(field, _)| *field == Field::Nonce);
-    if kind != entry::kind(before) || issued || fields.is_empty() {
+    if now.kind() != before.kind() || issued || fields.is_empty() {
         EntryLine::Whole(*now)
     } else {
         EntryLine::Fields(fields)

@@ -8,9 +8,9 @@ use super::cursor::Cursor;
 use super::error::Error;
 use super::lines::{self, Line};
 use super::parse_request::request;
-use super::parse_standing::standing;
+use super::parse_standing::{standing, whole_words};
 use super::script::{EntryLine, Script, Sizes, Standing, Start};
-use crate::entry::ENTRY;
+use crate::entry;
 
 const HEAD: &str = "the first line: 'memory BYTES entries NUMBER'";
 
@@ -67,7 +67,7 @@ fn head(cursor: &mut Cursor, line: &Line) -> Result<Script, Error> {
     let limit = LIMIT as u64;
     let memory = cursor.up_to(limit, "the memory's length in bytes")?;
     let table = match cursor.next("'entries' or 'table'")? {
-        "entries" => ENTRY as u64 * cursor.up_to(limit / 32, "the number of entries")?,
+        "entries" => entry::SIZE as u64 * cursor.up_to(limit / 32, "the number of entries")?,
         "table" => cursor.up_to(limit, "the table's length in bytes")?,
         _ => return Err(cursor.error_before("'entries' or 'table'")),
     };
@@ -92,7 +92,7 @@ fn start(cursor: &mut Cursor, line: &Line, script: &mut Script) -> Result<(), Er
         script.exact = true;
         return Ok(());
     }
-    let place = Cursor::new(line).error_at(2, "'free', 'direct', 'indirect' or 'bytes'");
+    let place = Cursor::new(line).error_at(2, &format!("{} or 'bytes'", whole_words()));
     let standing = standing(cursor, script.sizes)?;
     if let Standing::Entry { line: EntryLine::Fields(_), .. } = standing {
         return Err(place);

@@ -5,7 +5,7 @@ use super::cursor::Cursor;
 use super::error::Error;
 use super::script::{EntryLine, Sizes, Standing, StatedState, Word};
 use super::words;
-use crate::entry::{self, Field, ENTRY};
+use crate::entry::{self, Bits, Entry, Field, Type};
 use crate::token::PARENT_ENCODING;
 
 /// `state`, `entry`, `table` or `at`, with what it states.
@@ -62,7 +62,7 @@ pub fn key(cursor: &mut Cursor) -> Result<[u64; 2], Error> {
 
 /// `entry NUMBER` with `free`, `bytes BYTES`, `direct FIELDS`, `indirect FIELDS` or fields alone.
 fn entry_line(cursor: &mut Cursor, sizes: Sizes) -> Result<Standing, Error> {
-    let entries = sizes.table / ENTRY;
+    let entries = sizes.table / entry::SIZE;
     let Some(last) = entries.checked_sub(1) else {
         return Err(cursor.error("no entry, as the table has none"));
     };
@@ -70,58 +70,64 @@ fn entry_line(cursor: &mut Cursor, sizes: Sizes) -> Result<Standing, Error> {
     let line = match cursor.peek() {
         Some("free") => whole_free(cursor)?,
         Some("bytes") => whole_bytes(cursor)?,
-        Some("direct") => whole_fields(cursor, entry::DIRECT)?,
-        Some("indirect") => whole_fields(cursor, entry::INDIRECT)?,
-        Some(_) => some_fields(cursor)?,
+        Some(word) => match Type::named(word) {
+            Some(own) => whole_fields(cursor, own)?,
+            None => some_fields(cursor)?,
+        },
         None => {
-            return Err(cursor.error("'free', 'direct', 'indirect', 'bytes' or fields to state"))
+            let expected = format!("{}, 'bytes' or fields to state", whole_words());
+            return Err(cursor.error(&expected));
         }
     };
     Ok(Standing::Entry { number, line })
 }
 
+/// The words that tell a type, each in quotes.
+pub fn whole_words() -> String {
+    let types = entry::TYPES.iter().map(|own| format!(", '{}'", own.name));
+    "'free'".to_string() + &types.collect::<String>()
+}
+
 fn whole_free(cursor: &mut Cursor) -> Result<EntryLine, Error> {
     cursor.next("'free'")?;
-    Ok(EntryLine::Whole(entry::of_kind(entry::FREE)))
+    Ok(EntryLine::Whole(Entry::of_kind(entry::FREE)))
 }
 
 fn whole_bytes(cursor: &mut Cursor) -> Result<EntryLine, Error> {
     cursor.next("'bytes'")?;
     let place = cursor.error("32 bytes");
     let bytes = bytes::read(cursor)?;
-    bytes.try_into().map(EntryLine::Whole).map_err(|_| place)
+    bytes.try_into().map(|bytes| EntryLine::Whole(Entry(bytes))).map_err(|_| place)
 }
 
 /// Fields that are not given are zero.
-fn whole_fields(cursor: &mut Cursor, kind: u64) -> Result<EntryLine, Error> {
+fn whole_fields(cursor: &mut Cursor, own: &Type) -> Result<EntryLine, Error> {
     cursor.next("the type")?;
-    let mut bytes = entry::of_kind(kind);
-    for (field, value) in fields(cursor, |field| entry::width(&bytes, field))? {
-        entry::set(&mut bytes, field, value);
-    }
-    Ok(EntryLine::Whole(bytes))
+    let fields = fields(cursor, |field| own.place(field))?;
+    let zeros = Entry::of_kind(own.kind);
+    let set = |entry: Entry, (field, value)| entry.with_field(field, value);
+    Ok(EntryLine::Whole(fields.into_iter().fold(zeros, set)))
 }
 
 /// Fields of an entry whose type is not stated: any type may have them.
 fn some_fields(cursor: &mut Cursor) -> Result<EntryLine, Error> {
-    let [direct, indirect] = [entry::DIRECT, entry::INDIRECT].map(entry::of_kind);
-    let width = |field| entry::width(&direct, field).or(entry::width(&indirect, field));
-    fields(cursor, width).map(EntryLine::Fields)
+    let place = |field| entry::TYPES.iter().find_map(|own| own.place(field));
+    fields(cursor, place).map(EntryLine::Fields)
 }
 
-/// All fields up to the line's end, each once, of the widths that are handed over.
+/// All fields up to the line's end, each once, as wide as the places that are handed over.
 fn fields(
     cursor: &mut Cursor,
-    width: impl Fn(Field) -> Option<usize>,
+    place: impl Fn(Field) -> Option<Bits>,
 ) -> Result<Vec<(Field, u64)>, Error> {
     let mut fields: Vec<(Field, u64)> = Vec::new();
     while cursor.peek().is_some() {
         let known =
-            |word: &str| words::field_of(word).and_then(|field| Some((field, width(field)?)));
-        let new = |(field, _): &(Field, usize)| fields.iter().all(|(other, _)| other != field);
+            |word: &str| words::field_of(word).and_then(|field| Some((field, place(field)?)));
+        let new = |(field, _): &(Field, Bits)| fields.iter().all(|(other, _)| other != field);
         let expected = "a field of the entry's type, each once";
-        let (field, width) = cursor.value(expected, |word| known(word).filter(new))?;
-        fields.push((field, field_value(cursor, field, width)?));
+        let (field, bits) = cursor.value(expected, |word| known(word).filter(new))?;
+        fields.push((field, field_value(cursor, field, bits.width())?));
     }
     Ok(fields)
 }

@@ -5,7 +5,7 @@ use super::script::{
 };
 use super::words::token_text;
 use super::{arguments, bytes, words, FILL};
-use crate::entry::{self, Field, ENTRY};
+use crate::entry::{Entry, Field, Type, SIZE};
 use crate::token::PARENT_ENCODING;
 use bridge::{Argument, Buffer, Operation, Place};
 use std::fmt::Write;
@@ -52,8 +52,8 @@ fn push_end(text: &mut String, comments: &Comments) {
 
 fn sizes_text(sizes: &Sizes) -> String {
     let Sizes { table, memory } = sizes;
-    match table % ENTRY {
-        0 => format!("memory {memory} entries {}", table / ENTRY),
+    match table % SIZE {
+        0 => format!("memory {memory} entries {}", table / SIZE),
         _ => format!("memory {memory} table {table}"),
     }
 }
@@ -281,19 +281,16 @@ fn entry_text(line: &EntryLine) -> String {
             return fields.iter().map(|(field, value)| field_text(*field, *value)).collect()
         }
     };
-    let (kind, places) = (entry::kind(whole), entry::places(entry::kind(whole)));
-    if *whole == [0; ENTRY] {
+    if *whole == Entry::default() {
         return " free".to_string();
     }
-    let name = match kind {
-        entry::DIRECT => " direct",
-        entry::INDIRECT => " indirect",
-        _ => return format!(" bytes {}", bytes::text(whole)),
+    let Some(own) = Type::of(whole.kind()) else {
+        return format!(" bytes {}", bytes::text(&whole.0));
     };
-    let fields = places.iter().map(|place| (place.0, entry::get(whole, place.0)));
+    let fields = own.fields.iter().map(|(field, bits)| (*field, whole.get(*bits)));
     let shown = fields.filter(|(field, value)| *value != 0 || always_shown(*field));
-    name.to_string()
-        + &shown.map(|(field, value)| whole_field_text(field, value)).collect::<String>()
+    let shown = shown.map(|(field, value)| whole_field_text(field, value));
+    format!(" {}{}", own.name, shown.collect::<String>())
 }
 
 fn always_shown(field: Field) -> bool {

@@ -5,7 +5,7 @@ use std::fmt;
 
 use super::change::changes;
 use super::words;
-use crate::entry::{self, Field, ENTRY};
+use crate::entry::{Entry, Field};
 use crate::token::Token;
 use crate::world::{Session, Step, World};
 use bridge::{Argument, Operation, Reply, State, Words};
@@ -117,7 +117,7 @@ pub struct StatedState {
 /// A whole entry, or some of its fields.
 #[derive(Clone, Debug, PartialEq, Eq)]
 pub enum EntryLine {
-    Whole(entry::Bytes),
+    Whole(Entry),
     Fields(Vec<(Field, u64)>),
 }
 
@@ -177,16 +177,15 @@ impl Standing {
 }
 
 fn put_entry(table: &mut [u8], number: usize, line: &EntryLine) {
-    let Some(mut bytes) = entry::at(table, number) else {
+    let Some(before) = Entry::at(table, number) else {
         return;
     };
-    match line {
-        EntryLine::Whole(whole) => bytes = *whole,
-        EntryLine::Fields(fields) => {
-            fields.iter().for_each(|(field, value)| entry::set(&mut bytes, *field, *value));
-        }
-    }
-    table[ENTRY * number..][..ENTRY].copy_from_slice(&bytes);
+    let set = |entry: Entry, (field, value): &(Field, u64)| entry.with_field(*field, *value);
+    let entry = match line {
+        EntryLine::Whole(whole) => *whole,
+        EntryLine::Fields(fields) => fields.iter().fold(before, set),
+    };
+    entry.store(table, number);
 }
 
 impl StatedState {
