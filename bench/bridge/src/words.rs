@@ -21,6 +21,10 @@ pub struct Words {
 impl Words {
     pub const COUNT: usize = 8;
 
+    /// The places of the words that may hold tokens.
+    pub const TOKEN: usize = 1;
+    pub const SECOND: usize = 2;
+
     pub fn in_order(&self) -> [u64; Words::COUNT] {
         [
             self.operation,
@@ -89,9 +93,9 @@ impl Argument {
     /// Where it stands among the words.
     pub const fn places(self) -> &'static [usize] {
         match self {
-            Argument::Address | Argument::Token => &[1],
-            Argument::Key => &[1, 2],
-            Argument::SecondToken | Argument::Offset => &[2],
+            Argument::Address | Argument::Token => &[Words::TOKEN],
+            Argument::Key => &[Words::TOKEN, Words::SECOND],
+            Argument::SecondToken | Argument::Offset => &[Words::SECOND],
             Argument::Task | Argument::Holder | Argument::FirstNonce => &[3],
             Argument::Length => &[4],
             Argument::User => &[5],

@@ -7,8 +7,8 @@ use bridge::{Check, Operation, Place, Reply, State, Words};
 use session::entry::{self, Entry};
 use session::token::Token;
 
+use crate::limits::{ENTRIES, MEMORY, SPENT};
 use crate::machine::Machine;
-use crate::worlds::SPENT;
 
 /// What is looked for.
 #[derive(Clone, Copy, Debug, PartialEq, Eq)]
@@ -75,11 +75,11 @@ impl Events {
         }
         let (granted, refused) = (reply.refusal == 0, reply.refusal == Check::Request as u64);
         let memory = machine.memory().len();
-        self.add(Event::LargestMemory, granted && memory == 1 << 24);
-        self.add(Event::TooMuchMemory, refused && memory == (1 << 24) + 1);
+        self.add(Event::LargestMemory, granted && memory == MEMORY);
+        self.add(Event::TooMuchMemory, refused && memory == MEMORY + 1);
         let table = machine.table().len();
-        self.add(Event::LargestTable, granted && table == 1_024 * entry::SIZE);
-        self.add(Event::TooManyEntries, refused && table == 1_025 * entry::SIZE);
+        self.add(Event::LargestTable, granted && table == ENTRIES * entry::SIZE);
+        self.add(Event::TooManyEntries, refused && table == (ENTRIES + 1) * entry::SIZE);
     }
 
     fn add(&mut self, event: Event, seen: bool) {
@@ -152,8 +152,8 @@ impl Seen<'_> {
     }
 
     fn deepest_line(&self) -> bool {
-        let deep = self.machine.table().len() == 1_024 * entry::SIZE && self.reply.refusal == 0;
-        deep && self.links() == 1_023
+        let deep = self.machine.table().len() == ENTRIES * entry::SIZE && self.reply.refusal == 0;
+        deep && self.links() == ENTRIES - 1
     }
 
     /// How many links stand above the named entry, whose line is whole.
@@ -162,7 +162,7 @@ impl Seen<'_> {
             let parent = Token::unpack(entry.get(entry::PARENT)).number as usize;
             Some(self.entry(parent)).filter(|_| entry.kind() == entry::INDIRECT)
         };
-        std::iter::successors(Some(self.entry(self.named())), above).skip(1).take(1_024).count()
+        std::iter::successors(Some(self.entry(self.named())), above).skip(1).take(ENTRIES).count()
     }
 }
 

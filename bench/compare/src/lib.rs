@@ -13,6 +13,7 @@ mod events;
 mod fault;
 mod guard;
 mod kinds;
+mod limits;
 mod machine;
 mod pair;
 mod player;

@@ -7,8 +7,6 @@ use session::World;
 use crate::player::Player;
 use crate::wild;
 
-pub const SPENT: u64 = 1 << 32;
-
 pub fn key(player: &mut Player) -> [u64; 2] {
     [player.dice.word(), player.dice.word()]
 }

@@ -3,11 +3,11 @@
 
 use std::ops::Range;
 
+use crate::interface::{Answer, Request};
 use crate::machine::Machine;
 use crate::permissions::lie_within;
 use crate::refusal::{need, Refusal};
 use crate::token::Token;
-use crate::{Answer, Request};
 
 impl Machine<'_> {
     /// The bytes of memory that an access reaches.

@@ -1,9 +1,10 @@
 //! Place 1: the request itself. Each request is judged by the words that it
 //! uses, and by no others.
 
+use crate::interface::{Request, State};
+use crate::operation;
 use crate::refusal::{need, Refusal};
 use crate::token::Token;
-use crate::{operation, Request, State};
 
 /// The next nonce once all are used: "the last means spent".
 pub const SPENT: u64 = 1 << 32;

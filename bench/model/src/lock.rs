@@ -1,10 +1,10 @@
 //! Lock and unlock, "through any token of the line".
 
 use crate::entry::{Direct, Entry, Kind};
+use crate::interface::{Answer, Request};
 use crate::machine::Machine;
 use crate::refusal::{need, Refusal};
 use crate::table::Owner;
-use crate::{Answer, Request};
 
 impl Machine<'_> {
     /// "sets Locked and holder at the owner and needs the owner's Lockable; by

@@ -2,11 +2,11 @@
 
 use crate::check::SPENT;
 use crate::entry::{Direct, Entry, Kind, Raw};
+use crate::interface::{Answer, Request, State};
 use crate::permissions;
 use crate::refusal::{need, Refusal};
 use crate::siphash;
 use crate::table::Table;
-use crate::{Answer, Request, State};
 
 pub struct Machine<'a> {
     pub state: &'a mut State,

@@ -1,12 +1,12 @@
 //! What counts references: derive, execute-only, clone, drop.
 
 use crate::entry::{Entry, Kind};
+use crate::interface::{Answer, Request};
 use crate::machine::Machine;
 use crate::permissions::{lie_within, X};
 use crate::refusal::{need, Refusal};
 use crate::table::Met;
 use crate::token::{naming, Token, PARENT_ENCODING};
-use crate::{Answer, Request};
 
 /// Place 9: "derive, execute-only, clone at 65,535".
 #[inline]

@@ -1,6 +1,6 @@
 //! The rows of "Where a request stops".
 
-use crate::Answer;
+use crate::interface::Answer;
 
 #[derive(Clone, Copy, Debug, PartialEq, Eq)]
 pub enum Refusal {

@@ -2,12 +2,12 @@
 
 use crate::check::SPENT;
 use crate::entry::{Direct, Entry, Kind};
+use crate::interface::{Answer, Request};
 use crate::machine::Machine;
 use crate::permissions::{self, lie_within};
 use crate::refusal::{need, Refusal};
 use crate::table::Met;
 use crate::token::naming;
-use crate::{Answer, Request};
 
 /// Place 6: "create, merge, revoke of an indirect entry".
 #[inline]

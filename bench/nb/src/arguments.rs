@@ -1,6 +1,6 @@
 //! The words behind a command: options, their values, and the rest.
 
-use crate::commands::Failure;
+use crate::outcome::Failure;
 use session::text;
 
 /// Options are taken out by their names; what is left at the end is the rest.

@@ -2,8 +2,10 @@
 
 pub mod answer;
 pub mod arguments;
+pub mod command;
 pub mod commands;
 pub mod map;
+pub mod outcome;
 pub mod stored;
 pub mod style;
 
@@ -11,7 +13,9 @@ use std::io::{self, ErrorKind, Write};
 use std::process::ExitCode;
 
 use arguments::Arguments;
-use commands::{Command, Failure, Verdict, COMMANDS};
+use command::Command;
+use commands::COMMANDS;
+use outcome::{Failure, Verdict};
 
 /// Runs a command line. The status is 0 for agreement, 1 for a difference, 2 for bad input.
 pub fn run(words: Vec<String>) -> ExitCode {

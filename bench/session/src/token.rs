@@ -48,6 +48,11 @@ impl Token {
         Ok(encoding << 62 | tag << NUMBER_AND_OFFSET | number << width | offset)
     }
 
+    /// Whether it names number 0 with tag 0.
+    pub fn is_root(&self) -> bool {
+        (self.number, self.tag) == (0, 0)
+    }
+
     /// Whether both name the same entry: "the same token" means number and tag.
     pub fn same(&self, other: &Token) -> bool {
         (self.number, self.tag) == (other.number, other.tag)

@@ -3,13 +3,14 @@
 use bridge::Operation;
 use session::entry;
 
+use crate::limits::ENTRIES;
 use crate::player::Player;
 use crate::{wild, worlds};
 
 /// A handed-over line, whole or with one fault in it.
 pub fn play(player: &mut Player) {
     let entries = match player.dice.below(2) {
-        0 => 1_024,
+        0 => ENTRIES,
         _ => player.dice.between(3, 400) as usize,
     };
     let count = player.dice.one_of(&[1, 1, 2]);
@@ -41,7 +42,7 @@ fn through_the_end(player: &mut Player, number: usize) {
 
 /// A line derived from a reset on until the numbers end, then dropped link by link, the deepest last.
 pub fn derived(player: &mut Player) {
-    let entries = player.dice.one_of(&[64, 64, 256, 1_024]);
+    let entries = player.dice.one_of(&[64, 64, 256, ENTRIES]);
     let memory = 2_048;
     worlds::reset(player, entries, memory, 1);
     let mut tokens = vec![0];

@@ -2,10 +2,9 @@
 
 use bridge::Operation;
 
+use crate::limits::{ENTRIES, MEMORY};
 use crate::player::Player;
 use crate::{wild, worlds};
-
-const MEMORY: usize = 1 << 24;
 
 pub fn play(player: &mut Player) {
     for memory in [MEMORY - 1, MEMORY + 1] {
@@ -17,7 +16,7 @@ pub fn play(player: &mut Player) {
 }
 
 fn largest(player: &mut Player) {
-    worlds::reset(player, 1_024, MEMORY, 1);
+    worlds::reset(player, ENTRIES, MEMORY, 1);
     let length = player.dice.between(1, MEMORY as u64);
     player.create(0, length, 7);
     let rest = player.token(0);

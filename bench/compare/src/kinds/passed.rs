@@ -4,9 +4,9 @@ use bridge::Operation;
 use session::entry::{self, Entry};
 use session::World;
 
+use crate::limits::SPENT;
 use crate::player::Player;
-use crate::worlds::{self, SPENT};
-use crate::{tag, wild};
+use crate::{tag, wild, worlds};
 
 const MEMORY: u64 = 64;
 

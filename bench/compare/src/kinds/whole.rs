@@ -2,9 +2,9 @@
 
 use bridge::Operation;
 
+use crate::limits::SPENT;
 use crate::player::Player;
-use crate::wild;
-use crate::worlds::{self, SPENT};
+use crate::{wild, worlds};
 
 pub fn play(player: &mut Player) {
     let entries = player.dice.between(2, 5) as usize;

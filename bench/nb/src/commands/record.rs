@@ -4,8 +4,9 @@ use std::fs;
 use std::io::Write;
 use std::path::Path;
 
-use super::{Command, Failure, Verdict};
 use crate::arguments::Arguments;
+use crate::command::Command;
+use crate::outcome::{Failure, Verdict};
 use crate::stored::{self, Stored};
 use session::play::{record, NotRecorded};
 use session::server::Proved;

@@ -3,10 +3,11 @@
 use std::fs;
 use std::io::{self, Write};
 
-use super::{Command, Failure, Verdict};
 use crate::answer::answer_text;
 use crate::arguments::Arguments;
+use crate::command::Command;
 use crate::map;
+use crate::outcome::{Failure, Verdict};
 use crate::style::Style;
 use session::play::{Difference, Played, Player};
 use session::server::{Model, Proved, Server};

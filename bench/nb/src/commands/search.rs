@@ -2,8 +2,10 @@
 
 use std::io::Write;
 
-use super::{replay, Command, Failure, Verdict};
+use super::replay;
 use crate::arguments::Arguments;
+use crate::command::Command;
+use crate::outcome::{Failure, Verdict};
 use bridge::Operation;
 use session::play::search;
 use session::server::Proved;

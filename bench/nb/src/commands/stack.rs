@@ -2,8 +2,9 @@
 
 use std::io::Write;
 
-use super::{Command, Failure, Verdict};
 use crate::arguments::Arguments;
+use crate::command::Command;
+use crate::outcome::{Failure, Verdict};
 
 pub const COMMAND: Command = Command {
     name: "stack",

@@ -2,8 +2,9 @@
 
 use std::io::{self, IsTerminal, Write};
 
-use super::{Command, Failure, Verdict};
 use crate::arguments::Arguments;
+use crate::command::Command;
+use crate::outcome::{Failure, Verdict};
 use measure::{time, Form, Options};
 
 pub const COMMAND: Command = Command {

@@ -15,6 +15,9 @@ fn any() -> impl Iterator<Item = Argument> {
     NUMBERS.into_iter().chain(TOKENS)
 }
 
+pub const TOKEN: &str = "a token: 'root', a name given before, '@NUMBER:TAG' or a number, with \
+     '/ENCODING' and '+OFFSET' behind if needed, each inside its width";
+
 /// The word that an argument stands behind.
 pub fn word(argument: Argument) -> &'static str {
     match argument {
@@ -31,21 +34,18 @@ pub fn word(argument: Argument) -> &'static str {
     }
 }
 
-/// What is expected behind the word.
-pub fn expected(argument: Argument) -> &'static str {
+/// What is expected behind the word, for each word of the request that it fills.
+pub fn expected(argument: Argument) -> &'static [&'static str] {
     match argument {
-        Argument::Address | Argument::Token | Argument::SecondToken => {
-            "a token: 'root', a name given before, '@NUMBER:TAG' or a number, with '/ENCODING' and \
-             '+OFFSET' behind if needed, each inside its width"
-        }
-        Argument::Key => "two key words",
-        Argument::Offset => "the offset",
-        Argument::Task | Argument::Holder => "a task",
-        Argument::FirstNonce => "the first nonce",
-        Argument::Length => "a length",
-        Argument::User => "a user's mark",
-        Argument::Permissions => "permissions: letters of RWX, '-' or a number",
-        Argument::Encoding => "an encoding",
+        Argument::Address | Argument::Token | Argument::SecondToken => &[TOKEN],
+        Argument::Key => &["the first key word", "the second key word"],
+        Argument::Offset => &["the offset"],
+        Argument::Task | Argument::Holder => &["a task"],
+        Argument::FirstNonce => &["the first nonce"],
+        Argument::Length => &["a length"],
+        Argument::User => &["a user's mark"],
+        Argument::Permissions => &["permissions: letters of RWX, '-' or a number"],
+        Argument::Encoding => &["an encoding"],
     }
 }
 

@@ -6,6 +6,9 @@ use super::error::Error;
 /// More than any slice of a session has.
 pub const LIMIT: usize = 1 << 26;
 
+/// The byte that fills a read's buffer where the text gives its length only.
+pub const FILL: u8 = 0xA5;
+
 /// Runs of one byte from this length on are written as a repeat.
 const REPEAT: usize = 5;
 /// So many bytes at most are one item.

@@ -1,6 +1,7 @@
 //! What changed between two worlds, as the lines that state it.
 
-use super::script::{EntryLine, Standing, StatedState};
+use super::script::{EntryLine, Standing};
+use super::state::StatedState;
 use crate::entry::{Entry, Field, Type, SIZE};
 use crate::world::World;
 use std::ops::Range;

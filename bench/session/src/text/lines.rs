@@ -1,6 +1,7 @@
 //! Text as lines of words. A line that ends in a backslash goes on in the next one.
 
 use super::error::Error;
+use super::script::Comments;
 
 /// A word and where it stands.
 #[derive(Clone, Copy, Debug)]
@@ -18,6 +19,13 @@ pub struct Line<'a> {
     /// Blank lines and lines that are comments, which stand above it.
     pub above: Vec<&'a str>,
     pub end: (usize, usize),
+}
+
+impl Line<'_> {
+    pub fn comments(&self) -> Comments {
+        let above = self.above.iter().map(|line| line.to_string()).collect();
+        Comments { above, behind: self.comment.map(str::to_string) }
+    }
 }
 
 /// The lines that have words. The comments at the end stand above a last line without words.

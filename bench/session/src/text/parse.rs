@@ -3,7 +3,6 @@
 use std::collections::HashSet;
 
 use super::bytes::LIMIT;
-use super::comments;
 use super::cursor::Cursor;
 use super::error::Error;
 use super::lines::{self, Line};
@@ -27,7 +26,7 @@ pub fn parse(text: &str) -> Result<Script, Error> {
         return Err(end.error_at_end("a further line, as the last one ends in '\\'"));
     }
     let mut script = reader.script.ok_or_else(|| end.error(HEAD))?;
-    script.below = comments(last).above;
+    script.below = last.comments().above;
     Ok(script)
 }
 
@@ -73,7 +72,7 @@ fn head(cursor: &mut Cursor, line: &Line) -> Result<Script, Error> {
     };
     cursor.end("the line's end")?;
     Ok(Script {
-        head: comments(line),
+        head: line.comments(),
         sizes: Sizes { table: table as usize, memory: memory as usize },
         start: Vec::new(),
         exact: false,
@@ -97,6 +96,6 @@ fn start(cursor: &mut Cursor, line: &Line, script: &mut Script) -> Result<(), Er
     if let Standing::Entry { line: EntryLine::Fields(_), .. } = standing {
         return Err(place);
     }
-    script.start.push(Start { comments: comments(line), standing });
+    script.start.push(Start { comments: line.comments(), standing });
     Ok(())
 }

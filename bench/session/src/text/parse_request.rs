@@ -4,14 +4,13 @@ use std::collections::HashSet;
 use std::sync::LazyLock;
 
 use super::arguments;
-use super::bytes::{self, LIMIT};
+use super::bytes::{self, FILL, LIMIT};
 use super::cursor::Cursor;
 use super::error::Error;
 use super::lines::Line;
 use super::parse_expected::expected;
-use super::parse_standing::key;
 use super::script::{Ask, Word};
-use super::{comments, words, FILL};
+use super::words;
 use crate::world::Step;
 use bridge::{Argument, Buffer, Operation, Words};
 
@@ -34,7 +33,7 @@ pub fn request(
     let mut ask = operation(cursor, names)?;
     let lengthless = transfer(cursor, &mut ask)?;
     ask.line = number;
-    ask.comments = comments(line);
+    ask.comments = line.comments();
     let given = named_arguments(cursor, names, &mut ask)?;
     if let Some(error) = lengthless.filter(|_| !given.contains("buffer")) {
         return Err(error);
@@ -88,7 +87,7 @@ fn transfer(cursor: &mut Cursor, ask: &mut Ask) -> Result<Option<Error>, Error> 
 }
 
 fn token(cursor: &mut Cursor, names: &HashSet<String>) -> Result<Word, Error> {
-    cursor.value(arguments::expected(Argument::Token), |word| {
+    cursor.value(arguments::TOKEN, |word| {
         words::token(word, 0).filter(|token| match token {
             Word::Name { name, .. } => names.contains(name),
             Word::Number(_) => true,
@@ -140,19 +139,22 @@ fn value(
     names: &HashSet<String>,
     ask: &mut Ask,
 ) -> Result<(), Error> {
-    let expected = arguments::expected(argument);
     match argument {
         Argument::Address | Argument::Token => ask.token = token(cursor, names)?,
         Argument::SecondToken => ask.second = token(cursor, names)?,
-        Argument::Key => [ask.token, ask.second] = key(cursor)?.map(Word::Number),
-        Argument::Offset => ask.second = Word::Number(cursor.number(expected)?),
-        Argument::Permissions => {
-            ask.words.permissions = cursor.value(expected, words::permissions)?
-        }
         _ => {
-            let number = cursor.number(expected)?;
-            argument.places().iter().for_each(|place| *ask.words.at(*place) = number);
+            let places = argument.places().iter().zip(arguments::expected(argument));
+            for (place, expected) in places {
+                ask.put(*place, number(cursor, argument, expected)?);
+            }
         }
     }
     Ok(())
+}
+
+fn number(cursor: &mut Cursor, argument: Argument, expected: &str) -> Result<u64, Error> {
+    match argument {
+        Argument::Permissions => cursor.value(expected, words::permissions),
+        _ => cursor.number(expected),
+    }
 }

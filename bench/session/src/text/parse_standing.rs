@@ -3,7 +3,8 @@
 use super::bytes;
 use super::cursor::Cursor;
 use super::error::Error;
-use super::script::{EntryLine, Sizes, Standing, StatedState, Word};
+use super::script::{EntryLine, Sizes, Standing, Word};
+use super::state::{Part, StatedState, STATE};
 use super::words;
 use crate::entry::{self, Bits, Entry, Field, Type};
 use crate::token::PARENT_ENCODING;
@@ -37,27 +38,29 @@ fn placed(cursor: &mut Cursor, length: usize, what: &str) -> Result<(usize, Vec<
     Ok((at, bytes))
 }
 
-/// `state` with any of `key K0 K1`, `last NUMBER` and `nonce NONCE`.
+/// `state` with any of its parts, such as `last NUMBER`.
 fn state(cursor: &mut Cursor) -> Result<Standing, Error> {
     let mut state = StatedState::default();
     while let Some(word) = cursor.peek() {
         cursor.next("")?;
-        match word {
-            "key" if state.key.is_none() => state.key = Some(key(cursor)?),
-            "last" if state.last_number.is_none() => {
-                state.last_number = Some(cursor.number("the last number given")?);
-            }
-            "nonce" if state.next_nonce.is_none() => {
-                state.next_nonce = Some(cursor.number("the next nonce")?);
-            }
-            _ => return Err(cursor.error_before("'key', 'last' or 'nonce', each once")),
-        }
+        let new = |part: &&Part| part.word == word && state.get(part).is_none();
+        let Some(part) = STATE.iter().find(new) else {
+            return Err(cursor.error_before(&format!("{}, each once", parts_text())));
+        };
+        let words = part.expected.iter().map(|expected| cursor.number(expected));
+        let words = words.collect::<Result<Vec<u64>, Error>>()?;
+        state.set(part, words);
     }
     Ok(Standing::State(state))
 }
 
-pub fn key(cursor: &mut Cursor) -> Result<[u64; 2], Error> {
-    Ok([cursor.number("the first key word")?, cursor.number("the second key word")?])
+/// The words of the state's parts, each in quotes.
+fn parts_text() -> String {
+    let words: Vec<String> = STATE.iter().map(|part| format!("'{}'", part.word)).collect();
+    match words.split_last() {
+        Some((last, words)) => format!("{} or {last}", words.join(", ")),
+        None => String::new(),
+    }
 }
 
 /// `entry NUMBER` with `free`, `bytes BYTES`, `direct FIELDS`, `indirect FIELDS` or fields alone.

@@ -1,17 +1,30 @@
 //! Script to text.
 
-use super::script::{
-    Ask, Comments, EntryLine, Expected, Script, Sizes, Standing, Start, StatedState, Word,
-};
+use super::script::{Ask, Comments, EntryLine, Expected, Script, Sizes, Standing, Start, Word};
+use super::state::{StatedState, STATE};
 use super::words::token_text;
-use super::{arguments, bytes, words, FILL};
+use super::{arguments, bytes, words};
 use crate::entry::{Entry, Field, Type, SIZE};
 use crate::token::PARENT_ENCODING;
-use bridge::{Argument, Buffer, Operation, Place};
+use crate::world::Session;
+use bridge::{Argument, Buffer, Operation, Place, Reply};
 use std::fmt::Write;
 
 /// Requests longer than this do not push the results of the others to the right.
 const WIDEST: usize = 64;
+
+/// A session as text, without results. Parsing gives the same session.
+pub fn print(session: &Session) -> String {
+    print_script(&Script::of(session))
+}
+
+/// A session as text with the replies that are expected, one for each request; tokens that they
+/// give are named. Parsing gives the same session.
+pub fn print_with(session: &Session, replies: &[Reply]) -> String {
+    let mut script = Script::of(session);
+    script.name_tokens(replies);
+    print_script(&script)
+}
 
 /// A script as text. Parsing gives the same script.
 pub fn print_script(script: &Script) -> String {
@@ -151,7 +164,7 @@ fn transferred(ask: &Ask, operation: Option<Operation>) -> String {
 }
 
 fn is_filled(ask: &Ask) -> bool {
-    ask.buffer.iter().all(|byte| *byte == FILL)
+    ask.buffer.iter().all(|byte| *byte == bytes::FILL)
 }
 
 /// The buffer, where it does not stand in front.
@@ -260,17 +273,12 @@ fn push_placed(text: &mut String, name: &str, at: usize, bytes: &[u8]) {
 }
 
 fn state_text(state: &StatedState) -> String {
-    let mut text = String::new();
-    if let Some([key0, key1]) = state.key.map(|key| key.map(words::number_text)) {
-        let _ = write!(text, " key {key0} {key1}");
-    }
-    if let Some(last) = state.last_number {
-        let _ = write!(text, " last {}", words::number_text(last));
-    }
-    if let Some(next) = state.next_nonce {
-        let _ = write!(text, " nonce {}", words::number_text(next));
-    }
-    text
+    let stated = STATE.iter().filter_map(|part| Some((part.word, state.get(part)?)));
+    let text = |(word, numbers): (&str, Vec<u64>)| {
+        let numbers = numbers.into_iter().map(|number| format!(" {}", words::number_text(number)));
+        format!(" {word}{}", numbers.collect::<String>())
+    };
+    stated.map(text).collect()
 }
 
 /// An entry by its fields, if its type has any; those of little interest are left out at zero.

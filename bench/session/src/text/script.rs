@@ -3,12 +3,11 @@
 use std::collections::HashMap;
 use std::fmt;
 
-use super::change::changes;
-use super::words;
+use super::state::StatedState;
 use crate::entry::{Entry, Field};
 use crate::token::Token;
 use crate::world::{Session, Step, World};
-use bridge::{Argument, Operation, Reply, State, Words};
+use bridge::{Operation, Reply, Words};
 
 /// A start, and requests with what is expected of them.
 #[derive(Clone, Debug, PartialEq, Eq)]
@@ -106,14 +105,6 @@ pub enum Standing {
     },
 }
 
-/// The parts of a state that are stated.
-#[derive(Clone, Copy, Debug, Default, PartialEq, Eq)]
-pub struct StatedState {
-    pub key: Option<[u64; 2]>,
-    pub last_number: Option<u64>,
-    pub next_nonce: Option<u64>,
-}
-
 /// A whole entry, or some of its fields.
 #[derive(Clone, Debug, PartialEq, Eq)]
 pub enum EntryLine {
@@ -188,30 +179,6 @@ fn put_entry(table: &mut [u8], number: usize, line: &EntryLine) {
     entry.store(table, number);
 }
 
-impl StatedState {
-    pub fn all(state: &State) -> StatedState {
-        let State { key, last_number, next_nonce } = *state;
-        let (last_number, next_nonce) = (Some(last_number), Some(next_nonce));
-        StatedState { key: Some(key), last_number, next_nonce }
-    }
-
-    /// What differs from an earlier state.
-    pub fn since(before: &State, now: &State) -> StatedState {
-        let all = StatedState::all(now);
-        StatedState {
-            key: all.key.filter(|key| *key != before.key),
-            last_number: all.last_number.filter(|last| *last != before.last_number),
-            next_nonce: all.next_nonce.filter(|next| *next != before.next_nonce),
-        }
-    }
-
-    pub fn put(&self, state: &mut State) {
-        state.key = self.key.unwrap_or(state.key);
-        state.last_number = self.last_number.unwrap_or(state.last_number);
-        state.next_nonce = self.next_nonce.unwrap_or(state.next_nonce);
-    }
-}
-
 impl Ask {
     pub fn of(step: &Step) -> Ask {
         Ask {
@@ -223,6 +190,15 @@ impl Ask {
             buffer: step.buffer.clone(),
             expected: None,
             standing: Vec::new(),
+        }
+    }
+
+    /// Puts a number at a place among the request's words.
+    pub fn put(&mut self, place: usize, number: u64) {
+        match place {
+            Words::TOKEN => self.token = Word::Number(number),
+            Words::SECOND => self.second = Word::Number(number),
+            _ => *self.words.at(place) = number,
         }
     }
 
@@ -252,22 +228,6 @@ impl Ask {
 }
 
 impl Script {
-    pub fn of(session: &Session) -> Script {
-        let World { table, memory, .. } = &session.world;
-        let sizes = Sizes { table: table.len(), memory: memory.len() };
-        let start = start_of(&session.world).into_iter();
-        Script {
-            head: Comments::default(),
-            sizes,
-            start: start
-                .map(|standing| Start { comments: Comments::default(), standing })
-                .collect(),
-            exact: false,
-            asks: session.steps.iter().map(Ask::of).collect(),
-            below: Vec::new(),
-        }
-    }
-
     /// What stands at the start.
     pub fn world(&self) -> World {
         let mut world = World::zeros(self.sizes.table, self.sizes.memory);
@@ -284,45 +244,6 @@ impl Script {
             ask.add_names(None, &mut names);
         }
         Ok(Session { world: self.world(), steps })
-    }
-
-    /// Expects these replies, names the tokens that they give, and uses the names from there on.
-    pub fn name_tokens(&mut self, replies: &[Reply]) {
-        let mut given: Vec<(String, u64)> = Vec::new();
-        for (at, (ask, reply)) in self.asks.iter_mut().zip(replies).enumerate() {
-            ask.use_names(&given);
-            let [first, second] = token_names(ask.words.operation, at + 1);
-            let names = [first, second.filter(|_| reply.second != 0)];
-            let expected = Expected::of(ask.words.operation, reply, names);
-            given.extend(expected.named_tokens());
-            ask.expected = Some(expected);
-        }
-    }
-}
-
-/// All that is not zero in a world. A state is stated whole.
-fn start_of(world: &World) -> Vec<Standing> {
-    let zeros = World::zeros(world.table.len(), world.memory.len());
-    let state = (world.state != State::default()).then(|| StatedState::all(&world.state));
-    let rest = changes(&World { state: world.state, ..zeros }, world);
-    state.map(Standing::State).into_iter().chain(rest).collect()
-}
-
-impl Ask {
-    /// Writes the tokens by the names that were given last for them.
-    fn use_names(&mut self, given: &[(String, u64)]) {
-        let Ok(words) = self.resolve(&Names::new()) else {
-            return;
-        };
-        let Some(operation) = Operation::of(self.words.operation) else {
-            return;
-        };
-        if operation.names_entry() {
-            self.token = named(words.token, given);
-        }
-        if operation.takes(Argument::SecondToken) {
-            self.second = named(words.second, given);
-        }
     }
 }
 
@@ -343,35 +264,5 @@ impl Expected {
             buffer: None,
             names: [first, second],
         }
-    }
-
-    fn named_tokens(&self) -> Vec<(String, u64)> {
-        let tokens = [self.first, self.second];
-        let both = self.names.iter().cloned().zip(tokens);
-        both.filter_map(|(name, token)| Some((name?, token?))).collect()
-    }
-}
-
-/// The names that an operation's tokens get: what they name, with the request's number.
-fn token_names(operation: u64, at: usize) -> [Option<String>; 2] {
-    let tokens = Operation::of(operation).map_or(&[][..], Operation::tokens);
-    [0, 1].map(|which| tokens.get(which).map(|name| format!("{name}{at}")))
-}
-
-/// A token by the name that was given last for the same entry.
-fn named(word: u64, given: &[(String, u64)]) -> Word {
-    let token = Token::unpack(word);
-    let same = |given: &&(String, u64)| {
-        Token::unpack(given.1).same(&token)
-            && !words::is_root(word)
-            && Token::unpack(given.1).offset == 0
-    };
-    match given.iter().rev().find(same) {
-        Some((name, given)) => Word::Name {
-            name: name.clone(),
-            encoding: Some(token.encoding).filter(|own| *own != Token::unpack(*given).encoding),
-            offset: token.offset,
-        },
-        None => Word::Number(word),
     }
 }

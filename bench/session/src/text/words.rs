@@ -124,9 +124,9 @@ fn suffix(word: &str, mark: char) -> Option<(&str, Option<u64>)> {
 /// A word as a token. `encoding` is the one that need not be written.
 pub fn token_text(word: u64, encoding: u64) -> String {
     let token = Token::unpack(word);
-    let entry = match (token.number, token.tag) {
-        (0, 0) => "root".to_string(),
-        (number, tag) => format!("@{}:{tag:#06x}", number_text(number)),
+    let entry = match token.is_root() {
+        true => "root".to_string(),
+        false => format!("@{}:{:#06x}", number_text(token.number), token.tag),
     };
     entry + &suffixes(token.encoding, encoding, token.offset)
 }
@@ -136,12 +136,6 @@ pub fn suffixes(encoding: u64, usual: u64, offset: u64) -> String {
     let encoding = if encoding == usual { String::new() } else { format!("/{encoding}") };
     let offset = if offset == 0 { String::new() } else { format!("+{offset}") };
     encoding + &offset
-}
-
-/// Whether a word names number 0 with tag 0.
-pub fn is_root(word: u64) -> bool {
-    let token = Token::unpack(word);
-    (token.number, token.tag) == (0, 0)
 }
 
 /// The word of each field.
