@@ -64,19 +64,20 @@ const ROWS: &[(Check, &str, Form)] = &[
     (Check::Nonces, "too few nonces", Plain(Refusal::Nonces)),
 ];
 
-/// Each row stands at its number, from 1 on.
+/// The rows stand by rising numbers; some may not be given yet.
 const _: () = {
-    let mut at = 0;
+    let mut at = 1;
     while at < ROWS.len() {
-        assert!(ROWS[at].0 as usize == at + 1);
+        assert!((ROWS[at - 1].0 as u64) < ROWS[at].0 as u64);
         at += 1;
     }
 };
 
 impl Check {
-    pub const COUNT: usize = ROWS.len();
+    /// The last one's number.
+    pub const LAST: u64 = ROWS[ROWS.len() - 1].0 as u64;
 
-    /// Every check, in 01's order.
+    /// Every check, by rising numbers.
     pub fn all() -> impl Iterator<Item = Check> {
         ROWS.iter().map(|(check, ..)| *check)
     }
@@ -87,7 +88,7 @@ impl Check {
     }
 
     fn row(self) -> &'static (Check, &'static str, Form) {
-        &ROWS[self as usize - 1]
+        ROWS.iter().find(|(check, ..)| *check == self).expect("a row for each check")
     }
 
     /// The numbers of the places that its refusal tells; 0 alone if it tells none.

@@ -3,6 +3,10 @@
 use std::fmt;
 
 /// The key, the last number given and the next nonce.
+///
+/// A further word is a field here, with its place in the three orders and its text below, and a row
+/// of `STATE` in session's text/state.rs, by which sessions write it. Beside that, session's
+/// server.rs hands it to the model, and compare's worlds.rs says what a state handed over holds.
 #[derive(Clone, Copy, Debug, Default, PartialEq, Eq)]
 pub struct State {
     pub key: [u64; 2],

@@ -9,7 +9,7 @@ use crate::events::Events;
 /// The operations, and all numbers above.
 pub const OPERATIONS: usize = Operation::COUNT + 1;
 /// Granted, and the refusals.
-const REFUSALS: usize = Check::COUNT + 1;
+const REFUSALS: usize = Check::LAST as usize + 1;
 /// None, and the places.
 const PLACES: usize = Place::ALL.len() + 1;
 

@@ -19,15 +19,19 @@ pub fn dirty(player: &mut Player, entries: usize, memory: usize) -> World {
     }
     if player.dice.once_in(4) {
         player.dice.fill(&mut world.table);
-        world.state = state(player);
+        world.state = random(player);
     }
     world
 }
 
+/// A state that is handed over. What a further word of the state holds is said here.
+pub fn handed(key: [u64; 2], last_number: u64, next_nonce: u64) -> State {
+    State { key, last_number, next_nonce }
+}
+
 /// A state of random words.
-pub fn state(player: &mut Player) -> State {
-    let key = key(player);
-    State { key, last_number: player.dice.word(), next_nonce: player.dice.word() }
+fn random(player: &mut Player) -> State {
+    State::from_order([0; State::WORDS].map(|_: u8| player.dice.word()))
 }
 
 /// Begins a session with a granted reset.
@@ -84,6 +88,6 @@ pub fn line(player: &mut Player, entries: usize, memory: usize, count: u64) -> W
     }
     let key = key(player);
     let last_number = entries as u64 - 1;
-    world.state = State { key, last_number, next_nonce: entries as u64 + 1 };
+    world.state = handed(key, last_number, entries as u64 + 1);
     world
 }

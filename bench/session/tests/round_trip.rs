@@ -28,7 +28,7 @@ fn random_sessions_with_random_replies() {
         let session = dice.session();
         let replies: Vec<bridge::Reply> = (0..session.steps.len())
             .map(|_| bridge::Reply {
-                refusal: dice.below(2) * dice.below(Check::COUNT as u64 + 1),
+                refusal: dice.below(2) * dice.below(Check::LAST + 1),
                 place: dice.below(3),
                 first: dice.some_word(),
                 second: dice.some_word(),

@@ -55,7 +55,7 @@ fn twice(player: &mut Player, nonce: u64) {
     let mut world = World::zeros(4 * entry::SIZE, MEMORY as usize);
     player.dice.fill(&mut world.memory);
     old.store(&mut world.table, number);
-    world.state = bridge::State { key, last_number: 0, next_nonce: nonce };
+    world.state = worlds::handed(key, 0, nonce);
     player.begin(world);
     player.simple(Operation::Revoke, old.token(number, 2));
 }

@@ -1,7 +1,6 @@
 //! Handed-over tables whose entries are made of likely and unlikely fields: parents that are there
 //! or not, nonces in any order, overlapping segments, a field now and then ill-formed.
 
-use bridge::State;
 use session::entry::{self, Entry};
 use session::token;
 use session::World;
@@ -27,7 +26,7 @@ fn table(player: &mut Player, entries: usize, memory: usize) -> World {
     }
     let last_number = player.dice.below(entries as u64);
     let next_nonce = player.dice.one_of(&[1, 5, 20, 20, (1 << 32) - 1, 1 << 32]);
-    world.state = State { key: worlds::key(player), last_number, next_nonce };
+    world.state = worlds::handed(worlds::key(player), last_number, next_nonce);
     world
 }
 

@@ -2,7 +2,7 @@
 
 use super::arguments;
 use super::script::Word;
-use crate::entry::Field;
+use crate::entry::{Field, TYPES};
 use crate::token::Token;
 use bridge::{Argument, Operation, Place};
 
@@ -138,28 +138,27 @@ pub fn suffixes(encoding: u64, usual: u64, offset: u64) -> String {
     encoding + &offset
 }
 
-/// The word of each field.
-const FIELDS: [(&str, Field); 13] = [
-    ("base", Field::Base),
-    ("length", Field::Length),
-    ("parent", Field::Parent),
-    ("count", Field::Count),
-    ("holder", Field::Holder),
-    ("user", Field::User),
-    ("zeros", Field::Zeros),
-    ("permissions", Field::Permissions),
-    ("locked", Field::Locked),
-    ("lockable", Field::Lockable),
-    ("cow", Field::Cow),
-    ("tag", Field::Tag),
-    ("nonce", Field::Nonce),
-];
-
+/// The field of a word, if some type has it.
 pub fn field_of(word: &str) -> Option<Field> {
-    FIELDS.iter().find(|(name, _)| *name == word).map(|(_, field)| *field)
+    let fields = TYPES.iter().flat_map(|own| own.fields).map(|(field, _)| *field);
+    fields.into_iter().find(|field| field_name(*field) == word)
 }
 
 /// The word of a field.
 pub fn field_name(field: Field) -> &'static str {
-    FIELDS.iter().find(|(_, other)| *other == field).map_or("", |(name, _)| name)
+    match field {
+        Field::Base => "base",
+        Field::Length => "length",
+        Field::Parent => "parent",
+        Field::Count => "count",
+        Field::Holder => "holder",
+        Field::User => "user",
+        Field::Zeros => "zeros",
+        Field::Permissions => "permissions",
+        Field::Locked => "locked",
+        Field::Lockable => "lockable",
+        Field::Cow => "cow",
+        Field::Tag => "tag",
+        Field::Nonce => "nonce",
+    }
 }
