@@ -15,6 +15,7 @@ fn any() -> impl Iterator<Item = Argument> {
     NUMBERS.into_iter().chain(TOKENS)
 }
 
+/// What is expected where a token stands.
 pub const TOKEN: &str = "a token: 'root', a name given before, '@NUMBER:TAG' or a number, with \
      '/ENCODING' and '+OFFSET' behind if needed, each inside its width";
 
@@ -77,4 +78,18 @@ pub fn instead(operation: Option<Operation>, any: Argument) -> (Argument, bool) 
     let taken = operation.map_or(&[][..], Operation::arguments);
     let own = taken.iter().find(|argument| argument.places() == any.places());
     own.map_or((any, false), |argument| (*argument, true))
+}
+
+#[cfg(test)]
+mod tests {
+    use super::*;
+    use bridge::Words;
+
+    /// So every word of every request can be written.
+    #[test]
+    fn any_request_may_be_given_each_of_its_words() {
+        let mut places: Vec<usize> = any().flat_map(Argument::places).copied().collect();
+        places.sort_unstable();
+        assert!(places.into_iter().eq(1..Words::COUNT));
+    }
 }

@@ -107,8 +107,7 @@ pub fn print_request(ask: &Ask) -> String {
 /// A number behind its word, unless it can be left out.
 fn argument_text(ask: &Ask, operation: Option<Operation>, any: Argument) -> String {
     let (argument, taken) = arguments::instead(operation, any);
-    let (words, places) = (ask.words.in_order(), argument.places());
-    let value = places.iter().fold(0, |_, place| words[*place]);
+    let value = argument.places().first().map_or(0, |place| ask.words.in_order()[*place]);
     if value == 0 && !(taken && arguments::is_always_written(argument)) {
         return String::new();
     }
