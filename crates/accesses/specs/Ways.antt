@@ -1,16 +1,16 @@
--- The ways of access, and what is left of an access's checks once its token is reached.
+-- The ways of access, and what its checks come to.
 -- Assumes nothing.
 use mathlib.Core.Path.{_≡_}
-use mathlib.Core.List.{List, [], _∷_}
+use mathlib.Core.List.{List}
 use Prim.Native.Nat.{ℕ, _+_}
-use lib.Dec.{leb}
 use lib.ListN.{length}
 use Rattle.tokens.specs.Token.{named}
-use Rattle.checks.specs.Answers.{stopAs}
+use Rattle.checks.specs.Refusals.{stopAs}
 use Rattle.machine.specs.Operations.{load, namedEntry, transfer}
+use Rattle.machine.specs.Parts.{State}
 use Rattle.machine.specs.Requests as request
 use Rattle.machine.specs.Steps.{pass, Verdict, verdict}
-use Rattle.machine.specs.Stops.{Check, inBounds, rightsHeld}
+use Rattle.machine.specs.Stops.{places}
 use Rattle.accesses.specs.declared.access.Loading.{Loading}
 use Rattle.accesses.specs.declared.access.Loading.the-variants as loading
 use Rattle.accesses.specs.declared.access.Transfer.{Transfer}
@@ -28,13 +28,6 @@ abbrev pub loadAs : Loading → request.Way
 loadAs loading.Read = request.reading
 loadAs loading.Fetch = request.fetching
 
--- the right and the bounds, for so many bytes
-abbrev pub transferChecks : List ℕ → request.Way → (token bytes : ℕ) → List Check
-transferChecks t w k n = rightsHeld t k (request.rightOf w) ∷ inBounds (leb (named k .offset + n) (namedEntry t k .length)) ∷ []
-
-unfoldable pub transferVerdict : List ℕ → request.Way → (token bytes : ℕ) → Verdict
-transferVerdict t w k n = verdict (transferChecks t w k n)
-
 -- where an access begins in memory
 abbrev pub startOf : List ℕ → ℕ → ℕ
 startOf t k = namedEntry t k .base + named k .offset
@@ -43,6 +36,10 @@ startOf t k = namedEntry t k .base + named k .offset
 abbrev pub Begins : Transfer → Verdict → (start : ℕ) → Type 0
 Begins (Stop why) v a = v ≡ stopAs why
 Begins (From x) v a = (v ≡ pass) × (x ≡ a)
+
+-- what the right and the bounds come to, for a buffer of so many bytes, whatever else the request carries
+abbrev pub Transfers : Transfer → List ℕ → request.Way → (token bytes : ℕ) → Type 0
+Transfers r t w k n = (m u : ℕ) (s : State) (b : List ℕ) → length b ≡ n → Begins r (verdict (places m s t (request.access w k u) b .rest)) (startOf t k)
 
 -- the way takes bytes from memory
 abbrev pub Loads : request.Way → Type 0

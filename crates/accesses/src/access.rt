@@ -1,26 +1,29 @@
 // Access: read, write and fetch, through a token, at its offset.
-use checks::answer::Refusal;
+use bits::slice::copy;
 use checks::reach::Reached;
 use checks::reach::reach;
+use checks::refusal::Refusal;
 use checks::settings::settings;
-use rulings::answer::Outcome;
-use rulings::answer::plain;
-use rulings::answer::refused;
-use rulings::issuer::Issuer;
-use table::bytes::copy;
+use rulings::reply::Outcome;
+use rulings::reply::plain;
+use rulings::reply::refused;
 use table::entries::entry_at;
+use table::state::StateWords;
 use tokens::permissions::within;
 use tokens::token::read;
 ghost use mathlib.Core.Path.{_≡_};
-ghost use Prim.Native.Nat.{_+_, _*_, _^_, _≤_, _<_};
+ghost use Prim.Native.Nat.{_+_, _*_, _≤_};
 ghost use lib.Dec.{leb};
 ghost use lib.ListN.{drop, length, take};
 ghost use lib.Seq.{sets};
+ghost use Rattle.checks.specs.Holds.{settingsHold};
 ghost use Rattle.machine.specs.Operations.{numberOf};
+ghost use Rattle.machine.specs.Parts.{State};
 ghost use Rattle.machine.specs.Requests as request;
 ghost use Rattle.machine.specs.Steps.{bufferAfter, memoryAfter};
-ghost use Rattle.rulings.specs.Rulings.{decided, effectOn, handed, issuerAs, verdictOn};
-ghost use Rattle.accesses.specs.Ways.{Begins, loadAs, startOf, transferVerdict, wayAs};
+ghost use Rattle.table.specs.States.{stateAs};
+ghost use Rattle.rulings.specs.Rulings.{effectOn, handed, rulingOn, verdictOn};
+ghost use Rattle.accesses.specs.Ways.{Begins, loadAs, startOf, Transfers, wayAs};
 
 pub enum Way {
     Read,
@@ -78,7 +81,7 @@ fn inside(offset: u64, bytes: u64, length: u64) -> bool
 // Places 7 and 8: the right, and the bounds.
 fn check_transfer(table: &[u8], way: Way, token: u64, bytes: u64) -> Transfer
     requires { ⌜ 32 * numberOf token + 32 ≤ length (now table) ⌝ }
-    ensures { λ r. ⌜ Begins r (transferVerdict (now (table .entry)) (wayAs way) token bytes) (startOf (now (table .entry)) token) ⌝ }
+    ensures { λ r. ⌜ Transfers r (now (table .entry)) (wayAs way) token bytes ⌝ }
 {
     let named = read(token);
     let e = entry_at(table, named.number as usize);
@@ -92,8 +95,9 @@ fn check_transfer(table: &[u8], way: Way, token: u64, bytes: u64) -> Transfer
     }
 }
 
+// All places, for every state whose settings, with the sizes, are judged as told.
 fn check_access(
-    s: Issuer,
+    set: bool,
     table: &[u8],
     memory: u64,
     way: Way,
@@ -101,10 +105,10 @@ fn check_access(
     task: u64,
     buffer: &[u8],
 ) -> Transfer
-    ensures { λ r. ⌜ Begins r (verdictOn memory (issuerAs s) (now (table .entry)) (request.access (wayAs way) token task) (now (buffer .entry))) (startOf (now (table .entry)) token) ⌝ }
+    ensures { λ r. ⌜ ((s : State) → set ≡ settingsHold memory s (now (table .entry)) → Begins r (verdictOn memory s (now (table .entry)) (request.access (wayAs way) token task) (now (buffer .entry))) (startOf (now (table .entry)) token)) ⌝ }
 {
     let bytes = buffer.len();
-    if settings(memory, table, s.last, s.next) & (task < 1 << 55) & (1 <= bytes) & (bytes <= 4096) {
+    if set & (task < 1 << 55) & (1 <= bytes) & (bytes <= 4096) {
         let r = reach(table, memory, token, task);
         match r {
             Reached::Stop(why) => Transfer::Stop(why),
@@ -135,7 +139,7 @@ fn store(memory: &mut [u8], start: usize, buffer: &[u8])
 
 // Read or fetch: the segment's bytes at the token's offset go to the buffer, with R or X.
 pub fn fill(
-    mut s: Issuer,
+    mut s: StateWords,
     by: Loading,
     table: &[u8],
     memory: &[u8],
@@ -143,18 +147,12 @@ pub fn fill(
     token: u64,
     task: u64,
 ) -> Outcome
-    ensures { λ r. ⌜ handed r (now (table .entry)) ≡ decided (length (now (memory .entry))) (issuerAs s) (now (table .entry)) (request.access (loadAs by) token task) (now (buffer .entry)) ⌝ }
-    ensures { λ _. ⌜ now (buffer .exit) ≡ bufferAfter (effectOn (length (now (memory .entry))) (issuerAs s) (now (table .entry)) (request.access (loadAs by) token task) (now (buffer .entry))) (now (memory .entry)) (now (buffer .entry)) ⌝ }
+    ensures { λ r. ⌜ handed r (now (table .entry)) ≡ rulingOn (length (now (memory .entry))) (stateAs s) (now (table .entry)) (request.access (loadAs by) token task) (now (buffer .entry)) ⌝ }
+    ensures { λ _. ⌜ now (buffer .exit) ≡ bufferAfter (effectOn (length (now (memory .entry))) (stateAs s) (now (table .entry)) (request.access (loadAs by) token task) (now (buffer .entry))) (now (memory .entry)) (now (buffer .entry)) ⌝ }
 {
-    let r = check_access(
-        s,
-        table,
-        memory.len() as u64,
-        way_of(by),
-        token,
-        task,
-        buffer,
-    );
+    let bytes = memory.len() as u64;
+    let set = settings(bytes, s, table);
+    let r = check_access(set, table, bytes, way_of(by), token, task, buffer);
     match r {
         Transfer::Stop(why) => refused(s, why),
         Transfer::From(start) => {
@@ -166,25 +164,19 @@ pub fn fill(
 
 // The buffer goes to the segment at the token's offset: needs W.
 pub fn write(
-    mut s: Issuer,
+    mut s: StateWords,
     table: &[u8],
     memory: &mut [u8],
     buffer: &[u8],
     token: u64,
     task: u64,
 ) -> Outcome
-    ensures { λ r. ⌜ handed r (now (table .entry)) ≡ decided (length (now (memory .entry))) (issuerAs s) (now (table .entry)) (request.access request.writing token task) (now (buffer .entry)) ⌝ }
-    ensures { λ _. ⌜ now (memory .exit) ≡ memoryAfter (effectOn (length (now (memory .entry))) (issuerAs s) (now (table .entry)) (request.access request.writing token task) (now (buffer .entry))) (now (memory .entry)) ⌝ }
+    ensures { λ r. ⌜ handed r (now (table .entry)) ≡ rulingOn (length (now (memory .entry))) (stateAs s) (now (table .entry)) (request.access request.writing token task) (now (buffer .entry)) ⌝ }
+    ensures { λ _. ⌜ now (memory .exit) ≡ memoryAfter (effectOn (length (now (memory .entry))) (stateAs s) (now (table .entry)) (request.access request.writing token task) (now (buffer .entry))) (now (memory .entry)) ⌝ }
 {
-    let r = check_access(
-        s,
-        table,
-        memory.len() as u64,
-        Way::Write,
-        token,
-        task,
-        buffer,
-    );
+    let bytes = memory.len() as u64;
+    let set = settings(bytes, s, table);
+    let r = check_access(set, table, bytes, Way::Write, token, task, buffer);
     match r {
         Transfer::Stop(why) => refused(s, why),
         Transfer::From(start) => {

@@ -4,7 +4,7 @@ use mathlib.Core.Path.{_≡_, refl, _∙_, ap, ap₂}
 use mathlib.Core.List.{List, [], _∷_, reverse, reverse-reverse}
 use Prim.Native.Nat.{ℕ, zero, suc, _^_, _<_}
 use native.Mathlib.Nat.{mod-eq-of-lt, zero-div, zero-mod}
-use lib.ListN.{length, getD, replicate, length-replicate}
+use lib.ListN.{length, getD, replicate, length-replicate, length-reverse}
 use borrow.Author.Needs.{needs}
 use Rattle.bits.specs.Bytes.{bytes, lowBytes, lowNumber, number}
 use Rattle.bits.specs.Fields.{bits, Fit}
@@ -37,10 +37,14 @@ pub low-round : (k n : ℕ) → n < 2 ^ bits (replicate k 8) → lowNumber k (lo
 unfolding lowBytes lowNumber
 low-round k n h = rw reverse-reverse (number-bytes k n h)
 
--- a word with its bytes in the other order: what the bytes say from the other end
 reverse-fit : (s : List ℕ) → length s ≡ 8 → ((i : ℕ) → getD s i 0 < 256) → Fit (replicate 8 8) (reverse s)
 reverse-fit s l h = rw (by-elements s 8 l) (h 7, (h 6, (h 5, (h 4, (h 3, (h 2, (h 1, (h 0, tt))))))))
 
+pub low-back : (s : List ℕ) → length s ≡ 8 → ((i : ℕ) → getD s i 0 < 256) → lowBytes 8 (lowNumber 8 s) ≡ s
+unfolding lowBytes lowNumber
+low-back s l h = ap reverse (bytes-number 8 (reverse s) (reverse-fit s l h)) ∙ reverse-reverse s
+
+-- a word with its bytes in the other order: what the bytes say from the other end
 pub number-swapped : (s : List ℕ) → length s ≡ 8 → ((i : ℕ) → getD s i 0 < 256) → lowNumber 8 (bytes 8 (lowNumber 8 s)) ≡ number 8 s
 unfolding lowNumber
 number-swapped s l h = rw (bytes-number 8 (reverse s) (reverse-fit s l h), reverse-reverse)
@@ -56,6 +60,10 @@ bytes-swapped w = ap reverse (bytes-number 8 (lowBytes 8 w) (low-fit w)) ∙ rev
 pub length-bytes : (k n : ℕ) → length (bytes k n) ≡ k
 unfolding bytes
 length-bytes k n = length-unpack (replicate k 8) n ∙ length-replicate k 8
+
+pub length-low-bytes : (k n : ℕ) → length (lowBytes k n) ≡ k
+unfolding lowBytes
+length-low-bytes k n = length-reverse (bytes k n) ∙ length-bytes k n
 
 -- the bytes of zero are zeros
 pub bytes-zero : (k : ℕ) → bytes k 0 ≡ replicate k 0

@@ -1,3 +1,4 @@
-// Bit fields, bytes and 64-bit words, and SipHash-2-4 over them.
+// Bit fields, bytes and 64-bit words, SipHash-2-4 over them, and slices of bytes.
 pub mod siphash;
+pub mod slice;
 pub mod word;

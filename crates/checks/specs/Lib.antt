@@ -1,2 +1,3 @@
-pub mod Answers
 pub mod Holds
+pub mod Reached
+pub mod Refusals

@@ -1,4 +1,5 @@
-// The checks that many requests share: sizes and settings, the named entry, its line, the lock.
-pub mod answer;
+// The refusals, and the checks that many requests share: sizes and settings, the named entry, its
+// line, the lock.
 pub mod reach;
+pub mod refusal;
 pub mod settings;

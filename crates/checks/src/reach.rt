@@ -1,16 +1,20 @@
 // The entry that a token names, its line and its lock: places 2 to 5.
-use crate::answer::Place;
-use crate::answer::Refusal;
+use crate::refusal::Bad;
+use crate::refusal::Refusal;
+use crate::refusal::told;
 use table::entries::entry_at;
 use table::line::Line;
 use table::line::walk;
 use tokens::token::Named;
 use tokens::token::read;
 ghost use mathlib.Core.Path.{_≡_};
-ghost use Rattle.machine.specs.Line.{isLocked, lineOf, whose};
+ghost use mathlib.Core.Bool.{cond};
+ghost use lib.Dec.{eqb};
+ghost use Rattle.machine.specs.Line as line;
 ghost use Rattle.machine.specs.Operations.{numberOf};
-ghost use Rattle.checks.specs.Answers.{formedVerdict, Forms, liveVerdict, placeAs, Reaches, reachVerdict};
 ghost use Rattle.checks.specs.Holds.{Names};
+ghost use Rattle.checks.specs.Reached.{formedVerdict, Forms, liveVerdict, Reaches, reachVerdict};
+ghost use Rattle.checks.specs.Refusals.{badAs};
 
 // What the checks of a token come to: where it stops, or the owner of its line.
 pub enum Reached {
@@ -37,19 +41,15 @@ fn entry_named(table: &[u8], n: Named) -> bool
 }
 
 // Whether the bad entry k of the line of entry n is n itself.
-pub fn place(n: usize, k: usize) -> Place
-    ensures { λ r. ⌜ placeAs r ≡ whose n k ⌝ }
+fn bad(n: usize, k: usize) -> Bad
+    ensures { λ r. ⌜ badAs r ≡ cond (eqb k n) line.itself line.ancestor ⌝ }
 {
-    if k == n {
-        Place::Named
-    } else {
-        Place::Ancestor
-    }
+    if k == n { Bad::Named } else { Bad::Ancestor }
 }
 
 // Places 2 to 4.
 pub fn reach_live(table: &[u8], memory: u64, k: u64) -> Reached
-    ensures { λ r. ⌜ Reaches (now (table .entry)) r (liveVerdict memory (now (table .entry)) k) (lineOf memory (now (table .entry)) (numberOf k)) ⌝ }
+    ensures { λ r. ⌜ Reaches (now (table .entry)) r (liveVerdict memory (now (table .entry)) k) (line.lineOf memory (now (table .entry)) (numberOf k)) ⌝ }
 {
     let named = read(k);
     if !entry_named(table, named) {
@@ -59,21 +59,25 @@ pub fn reach_live(table: &[u8], memory: u64, k: u64) -> Reached
     let l = walk(table, memory, n);
     match l {
         Line::Owner(o) => Reached::Owner(o),
-        Line::Dead(d) => Reached::Stop(Refusal::Dead(place(n, d))),
-        Line::Ill(i) => Reached::Stop(Refusal::IllFormed(place(n, i))),
+        Line::Dead(d) => Reached::Stop(Refusal::Dead(bad(n, d))),
+        Line::Ill(i) => Reached::Stop(Refusal::IllFormed(bad(n, i))),
     }
 }
 
-// Places 2 and 3. A dead line counts as unlocked.
+// Places 2 and 3. A dead line, which is refusal 4, passes and counts as unlocked.
 pub fn reach_formed(table: &[u8], memory: u64, k: u64) -> Formed
-    ensures { λ r. ⌜ Forms r (formedVerdict memory (now (table .entry)) k) (isLocked (now (table .entry)) (lineOf memory (now (table .entry)) (numberOf k))) ⌝ }
+    ensures { λ r. ⌜ Forms r (formedVerdict memory (now (table .entry)) k) (line.isLocked (now (table .entry)) (line.lineOf memory (now (table .entry)) (numberOf k))) ⌝ }
 {
     let r = reach_live(table, memory, k);
     match r {
-        Reached::Stop(why) => match why {
-            Refusal::Dead(_) => Formed::Locked(false),
-            _ => Formed::Stop(why),
-        },
+        Reached::Stop(why) => {
+            let words = told(why);
+            if words.number == 4 {
+                Formed::Locked(false)
+            } else {
+                Formed::Stop(why)
+            }
+        }
         Reached::Owner(o) => {
             let e = entry_at(table, o);
             Formed::Locked(e.locked)
@@ -83,7 +87,7 @@ pub fn reach_formed(table: &[u8], memory: u64, k: u64) -> Formed
 
 // Places 2 to 5.
 pub fn reach(table: &[u8], memory: u64, k: u64, task: u64) -> Reached
-    ensures { λ r. ⌜ Reaches (now (table .entry)) r (reachVerdict memory (now (table .entry)) k task) (lineOf memory (now (table .entry)) (numberOf k)) ⌝ }
+    ensures { λ r. ⌜ Reaches (now (table .entry)) r (reachVerdict memory (now (table .entry)) k task) (line.lineOf memory (now (table .entry)) (numberOf k)) ⌝ }
 {
     let r = reach_live(table, memory, k);
     match r {

@@ -1,5 +1,7 @@
 // Sizes and settings: place 1, as far as it is the same for all requests.
+use table::state::StateWords;
 ghost use mathlib.Core.Path.{_≡_};
+ghost use Rattle.table.specs.States.{stateAs};
 ghost use Rattle.checks.specs.Holds.{settingsHold, sizesHold};
 
 // Memory has 1 to 16,777,216 bytes, and the table 2 to 1,024 whole entries.
@@ -12,9 +14,9 @@ pub fn sizes(memory: u64, table: &[u8]) -> bool
 }
 
 // And the last number lies in the table, and the next nonce in 1 to 2^32.
-pub fn settings(memory: u64, table: &[u8], last: u64, next: u64) -> bool
-    ensures { λ r. ⌜ r ≡ settingsHold memory (now (table .entry)) last next ⌝ }
+pub fn settings(memory: u64, s: StateWords, table: &[u8]) -> bool
+    ensures { λ r. ⌜ r ≡ settingsHold memory (stateAs s) (now (table .entry)) ⌝ }
 {
     let entries = (table.len() / 32) as u64;
-    sizes(memory, table) & (last < entries) & (1 <= next) & (next <= 4294967296)
+    sizes(memory, table) & (s.last < entries) & (1 <= s.next) & (s.next <= 4294967296)
 }

@@ -4,20 +4,20 @@ use mathlib.Core.Path.{_≡_, refl, sym, _∙_, ap}
 use mathlib.Core.Bool.{Bool, true, false, _||_}
 use mathlib.Core.List.{List, [], _∷_, _++_}
 use Prim.Native.Nat.{ℕ, zero, suc, _+_, _*_, _%_, _^_, _<_}
-use native.Mathlib.Nat.{mul-one, add-zero, add-assoc}
+use native.Mathlib.Nat.{mul-one, add-zero}
 use native.Mathlib.Omega.{arith}
 use lib.Dec.{eqb}
 use lib.ListN.{length}
 use borrow.Author.Tests.{eqb-true}
 use Rattle.bits.specs.Bytes.{bytes, lowBytes}
-use Rattle.bits.specs.Fields.{Fit, pack}
+use Rattle.bits.specs.Fields.{pack}
 use Rattle.bits.specs.SipHash.{siphash}
-use Rattle.layout.specs.Entry.{bit, directFields, directNumber, directWidths, entryNumber, indirectFields, indirectNumber, indirectWidths, packAs, wordList, wordsNumber, wordWidths}
+use Rattle.layout.specs.Entry.{bit, directNumber, entryNumber, indirectNumber, packAs, wordsNumber, wordWidths}
 use Rattle.layout.specs.Tag.{retag, tagOf}
 use Rattle.layout.specs.declared.entry.Entry.{Entry}
 use Rattle.layout.specs.declared.entry.Words.{Words}
 use Rattle.bits.proofs.FieldLaws.{pack-append}
-use Rattle.layout.proofs.EntryLaws.{Laid, number-as, one, pack-other, two}
+use Rattle.layout.proofs.EntryLaws.{Laid, number-as, one, two}
 
 -- the last two fields of a number, of 16 and 32 bits
 last-two : (ws vs : List ℕ) (g ν : ℕ) → length ws ≡ length vs → pack (ws ++ (16 ∷ 32 ∷ [])) (vs ++ (g ∷ ν ∷ [])) ≡ pack ws vs * 2 ^ 48 + (g * 2 ^ 32 + ν)

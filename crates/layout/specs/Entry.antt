@@ -10,8 +10,6 @@ use lib.ListN.{getD, length}
 use Rattle.bits.specs.Bytes.{bytes, number}
 use Rattle.bits.specs.Fields.{pack, unpack, Fit}
 use Rattle.layout.specs.declared.entry.Entry.{Entry}
-use Rattle.layout.specs.declared.entry.Held.{Held}
-use Rattle.layout.specs.declared.entry.Held.the-variants.{IsEntry, NotAnEntry}
 use Rattle.layout.specs.declared.entry.Words.{Words}
 
 abbrev pub bit : Bool → ℕ
@@ -187,6 +185,10 @@ recounted e k = record { kind = e .kind; base = e .base; length = e .length; cou
 abbrev pub relocked : Entry → Bool → ℕ → Entry
 relocked e l h = record { kind = e .kind; base = e .base; length = e .length; count = e .count; holder = h; user = e .user; parent = e .parent; zeros = e .zeros; permissions = e .permissions; locked = l; lockable = e .lockable; cow = e .cow; tag = e .tag; nonce = e .nonce }
 
+-- the entry with another nonce
+abbrev pub dated : Entry → ℕ → Entry
+dated e ν = record { kind = e .kind; base = e .base; length = e .length; count = e .count; holder = e .holder; user = e .user; parent = e .parent; zeros = e .zeros; permissions = e .permissions; locked = e .locked; lockable = e .lockable; cow = e .cow; tag = e .tag; nonce = ν }
+
 -- the entry can be packed with nothing lost: its fields fit, and those that its type does not have are zero
 pub data Storable (e : Entry) : Type 0 where
   isFree : e ≡ free → Storable e
@@ -210,14 +212,6 @@ wordList w = w .a ∷ w .b ∷ w .c ∷ w .d ∷ []
 
 unfoldable pub wordsNumber : Words → ℕ
 wordsNumber w = pack wordWidths (wordList w)
-
--- what a part of the table holds: an entry, if it has 32 bytes
-abbrev pickHeld : Bool → Held → Held → Held
-pickHeld true a b = a
-pickHeld false a b = b
-
-unfoldable pub held : List ℕ → Held
-held s = pickHeld (eqb (length s) 32) (IsEntry (entryAt s)) NotAnEntry
 
 -- an entry of one of the three types, whose fields fit, can be written to a part of 32 bytes, and to no other
 abbrev pub packable : Entry → Bool

@@ -7,7 +7,7 @@ ghost use Prim.Native.Nat.{_<_, _^_, _/_, _%_};
 ghost use lib.ListN.{length};
 ghost use Rattle.bits.specs.Fields.{pack, unpack};
 ghost use Rattle.bits.specs.Bytes.{bytes, number};
-ghost use Rattle.layout.specs.Entry.{bit, direct, directNumber, directOf, endFields, endFrom, endWidths, entryAt, entryBytes, entryNumber, entryOf, Fits, free, held, indirect, indirectNumber, indirectOf, packable, recounted, relocked, wordsNumber, writable, written};
+ghost use Rattle.layout.specs.Entry.{bit, direct, directNumber, directOf, endFields, endFrom, endWidths, entryAt, entryBytes, entryNumber, entryOf, Fits, free, indirect, indirectNumber, indirectOf, packable, recounted, relocked, wordsNumber, writable, written};
 
 // An entry: every field of every type. A field that its type does not have is zero.
 pub struct Entry {
@@ -40,12 +40,6 @@ pub struct Words {
     pub b: u64,
     pub c: u64,
     pub d: u64,
-}
-
-// What a part of the table holds: an entry, if it has the 32 bytes of one.
-pub enum Held {
-    IsEntry(Entry),
-    NotAnEntry,
 }
 
 // The words that 32 bytes hold.
@@ -357,17 +351,6 @@ pub fn store(part: &mut [u8], e: Entry)
     ensures { λ _. ⌜ now (part .exit) ≡ entryBytes e ⌝ }
 {
     write_words(part, words_of(e));
-}
-
-// The entry that a part of the table holds, whatever its length.
-pub fn read(part: &[u8]) -> Held
-    ensures { λ r. ⌜ r ≡ held (now (part .entry)) ⌝ }
-{
-    if part.len() == 32 {
-        Held::IsEntry(load(part))
-    } else {
-        Held::NotAnEntry
-    }
 }
 
 fn packable(e: Entry) -> bool

@@ -1,79 +1,44 @@
 -- A request is granted, with all its checks passed, or refused, with one of 01's numbers.
 -- Assumes nothing.
-use mathlib.Core.Path.{_≡_, refl, ap, _∙_}
-use mathlib.Core.Logic.{_≢_}
-use mathlib.Core.Bool.{Bool, true, false, cond, not, _&&_}
-use mathlib.Core.List.{List, [], _∷_}
+use mathlib.Core.Path.{_≡_, refl, ap}
+use mathlib.Core.Bool.{Bool, true, false, cond}
+use mathlib.Core.List.{List, [], _∷_, _++_}
 use Prim.Native.Nat.{ℕ, _≤_}
 use native.Mathlib.Omega.{arith}
-use lib.Dec.{eqb, leb}
 use lib.ListN.{length}
-use borrow.Author.Tests.{eqb-false, leb-true, not-true}
-use Rattle.bits.proofs.TestLaws.{both}
+use borrow.Author.Tests.{leb-true}
 use Rattle.machine.specs.Demand3.{Accepted}
-use Rattle.machine.specs.Line.{badPlace, dead, ill, isDead, isIll, Line, lineOf, owner, whose}
-use Rattle.machine.specs.Operations.{Decision, grant, numberOf}
-use Rattle.machine.specs.Parts.{at, State}
+use Rattle.machine.specs.Line.{ancestor, itself}
+use Rattle.machine.specs.Operations.{book, carried, Decision, grant}
+use Rattle.machine.specs.Parts.{spent, State}
 use Rattle.machine.specs.Refusals.{Told}
-use Rattle.machine.specs.Requests.{access, Call, clone, create, derive, executeOnly, lock, merge, release, Request, reset, revoke, unlock}
+use Rattle.machine.specs.Requests.{Call, Request}
 use Rattle.machine.specs.Steps.{answer, decide, decision, Machine, pass, refused, settle, stop, Verdict, verdict}
-use Rattle.machine.specs.Stops.{Check, checks, need, needLine}
+use Rattle.machine.specs.Stops.{atBounds, atEntry, atForm, atKind, atLine, atLock, atNonces, atNumbers, atRequest, atRight, atStanding, Check, checks, needAll, noncesLeft, Places, places, Refusal, refusalBad, refusalNumber, sizes}
 use Rattle.machine.proofs.Choices.{by-cond}
 
--- ---- what each check tells if it fails
+-- ---- what a refusal tells
 
-record Proper (c : Check) : Type 0 where
-  pub tells : c .holds ≡ false → Told (c .refusal) (c .place)
+plain-told : (n : ℕ) → 1 ≤ n → n ≤ 11 → (3 ≤ n → n ≤ 4 → ⊥) → Told n 0
+plain-told n a b h = record { least = a; most = b; line = λ i j. absurd (h i j); plain = λ i j. refl }
 
--- the numbers that have no place
-abbrev placeless : ℕ → Bool
-placeless r = leb 1 r && leb r 11 && not (eqb r 3) && not (eqb r 4)
+line-told : (n k : ℕ) → 3 ≤ n → n ≤ 4 → 1 ≤ k → k ≤ 2 → Told n k
+line-told n k a b h i = record { least = omega arith; most = omega arith; line = λ j l. (h, i); plain = λ j l. absurd (omega arith) }
 
-proper-need : (r : ℕ) (b : Bool) → placeless r ≡ true → Proper (need r b)
-proper-need r b h =
-    let four : (leb 1 r && leb r 11 && not (eqb r 3) ≡ true) × (not (eqb r 4) ≡ true) = both (leb 1 r && leb r 11 && not (eqb r 3)) (not (eqb r 4)) h in
-    let three : (leb 1 r && leb r 11 ≡ true) × (not (eqb r 3) ≡ true) = both (leb 1 r && leb r 11) (not (eqb r 3)) (four .0) in
-    let two : (leb 1 r ≡ true) × (leb r 11 ≡ true) = both (leb 1 r) (leb r 11) (three .0) in
-    let not3 : r ≢ 3 = eqb-false r 3 (not-true (eqb r 3) (three .1)) in
-    let not4 : r ≢ 4 = eqb-false r 4 (not-true (eqb r 4) (four .1)) in
-    record { tells = λ f. record { least = leb-true 1 r (two .0); most = leb-true r 11 (two .1); line = λ a b. absurd (omega arith); plain = λ a b. refl } }
-
-whose-told : (r n k : ℕ) → 3 ≤ r → r ≤ 4 → Told r (whose n k)
-whose-told r n k h i =
-    by-cond (λ (p : ℕ). Told r p) (eqb k n)
-    (λ e. record { least = omega arith; most = omega arith; line = λ a b. (omega arith, omega arith); plain = λ a b. absurd (omega arith) })
-    (λ e. record { least = omega arith; most = omega arith; line = λ a b. (omega arith, omega arith); plain = λ a b. absurd (omega arith) })
-
--- a check of a line that no owner fails
-line-told : (r n : ℕ) → 3 ≤ r → r ≤ 4 → (holds : Line → Bool) → ((k : ℕ) → holds (owner k) ≡ true) → (l : Line) → holds l ≡ false → Told r (badPlace n l)
-line-told r n h i holds fine (owner k) e = let z : _≡_ {A = ℕ} 0 1 = cc (fine k) in absurd (omega arith)
-line-told r n h i holds fine (dead k) e = whose-told r n k h i
-line-told r n h i holds fine (ill k) e = whose-told r n k h i
-
-proper-ill : (n m : ℕ) (t : List ℕ) → Proper (needLine 3 n m t (not (isIll (lineOf m t n))))
-proper-ill n m t = record { tells = line-told 3 n (omega arith) (omega arith) (λ l. not (isIll l)) (λ k. refl) (lineOf m t n) }
-
-proper-dead : (n m : ℕ) (t : List ℕ) → Proper (needLine 4 n m t (not (isDead (lineOf m t n))))
-proper-dead n m t = record { tells = line-told 4 n (omega arith) (omega arith) (λ l. not (isDead l)) (λ k. refl) (lineOf m t n) }
-
-data AllProper : List Check → Type 0 where
-  none : AllProper []
-  more : {c : Check} {cs : List Check} → Proper c → AllProper cs → AllProper (c ∷ cs)
-
-ruleset proper = (none, more, proper-need, proper-ill, proper-dead)
-
-all-proper : (m : ℕ) (s : State) (t : List ℕ) (q : Request) (b : List ℕ) → AllProper (checks m s t q b)
-all-proper m s t (reset k0 k1 ν) b = search proper depth 40 fits 4000
-all-proper m s t (access w k u) b = search proper depth 40 fits 4000
-all-proper m s t (create k u l x p c) b = search proper depth 40 fits 4000
-all-proper m s t (merge j k u c) b = search proper depth 40 fits 4000
-all-proper m s t (derive k o l p c) b = search proper depth 40 fits 4000
-all-proper m s t (executeOnly k c) b = search proper depth 40 fits 4000
-all-proper m s t (clone k) b = search proper depth 40 fits 4000
-all-proper m s t (release k) b = search proper depth 40 fits 4000
-all-proper m s t (lock k u) b = search proper depth 40 fits 4000
-all-proper m s t (unlock k u) b = search proper depth 40 fits 4000
-all-proper m s t (revoke k c) b = search proper depth 40 fits 4000
+pub tells : (r : Refusal) → Told (refusalNumber r) (refusalBad r)
+tells atRequest = plain-told _ (omega arith) (omega arith) (λ a b. omega arith)
+tells atEntry = plain-told _ (omega arith) (omega arith) (λ a b. omega arith)
+tells (atForm itself) = line-told _ _ (omega arith) (omega arith) (omega arith) (omega arith)
+tells (atForm ancestor) = line-told _ _ (omega arith) (omega arith) (omega arith) (omega arith)
+tells (atLine itself) = line-told _ _ (omega arith) (omega arith) (omega arith) (omega arith)
+tells (atLine ancestor) = line-told _ _ (omega arith) (omega arith) (omega arith) (omega arith)
+tells atLock = plain-told _ (omega arith) (omega arith) (λ a b. omega arith)
+tells atKind = plain-told _ (omega arith) (omega arith) (λ a b. omega arith)
+tells atRight = plain-told _ (omega arith) (omega arith) (λ a b. omega arith)
+tells atBounds = plain-told _ (omega arith) (omega arith) (λ a b. omega arith)
+tells atStanding = plain-told _ (omega arith) (omega arith) (λ a b. omega arith)
+tells atNumbers = plain-told _ (omega arith) (omega arith) (λ a b. omega arith)
+tells atNonces = plain-told _ (omega arith) (omega arith) (λ a b. omega arith)
 
 -- ---- the verdict
 
@@ -86,39 +51,70 @@ pub passed : (cs : List Check) → verdict cs ≡ pass → Passed cs
 passed [] h = tt
 passed (c ∷ cs) h = go (c .holds) (passed cs) h
   where
-    go : (b : Bool) → (verdict cs ≡ pass → Passed cs) → cond b (verdict cs) (stop (c .refusal) (c .place)) ≡ pass → (b ≡ true) × Passed cs
+    go : (b : Bool) → (verdict cs ≡ pass → Passed cs) → cond b (verdict cs) (stop (c .refusal)) ≡ pass → (b ≡ true) × Passed cs
     go true f h = (refl, f h)
     go false f h = let z : _≡_ {A = ℕ} 0 1 = cc in absurd (omega arith)
+
+pub passed-split : (xs ys : List Check) → Passed (xs ++ ys) → Passed xs × Passed ys
+passed-split [] ys h = (tt, h)
+passed-split (x ∷ xs) ys h = let r = passed-split xs ys (h .1) in ((h .0, r .0), r .1)
 
 pub passing : (cs : List Check) → Passed cs → verdict cs ≡ pass
 passing [] h = refl
 passing (c ∷ cs) h = rw (h .0) (passing cs (h .1))
 
-by-verdict : (P : Verdict → Type 0) (cs : List Check) → AllProper cs → (Passed cs → P pass) → ((r p : ℕ) → Told r p → P (stop r p)) → P (verdict cs)
-by-verdict P cs none f g = f tt
-by-verdict P cs (more {c = d} {cs = ds} a rest) f g = by-cond P (d .holds) (λ h. by-verdict P ds rest (λ p. f (h, p)) g) (λ h. g (d .refusal) (d .place) (a .tells h))
+-- facts that hold, each
+abbrev pub AllTrue : List Bool → Type 0
+AllTrue [] = Unit {0}
+AllTrue (b ∷ bs) = (b ≡ true) × AllTrue bs
 
-pub decided : (P : Decision → Type 0) (m : ℕ) (s : State) (t : List ℕ) (q : Request) (b : List ℕ)
-    → (Passed (checks m s t q b) → P (grant m s t q b))
-    → ((r p : ℕ) → Told r p → P (refused s t r p))
+pub needed : (r : Refusal) (bs : List Bool) → Passed (needAll r bs) → AllTrue bs
+needed r [] h = tt
+needed r (b ∷ bs) h = (h .0, needed r bs (h .1))
+
+pub need-all : (r : Refusal) (bs : List Bool) → AllTrue bs → Passed (needAll r bs)
+need-all r [] h = tt
+need-all r (b ∷ bs) h = (h .0, need-all r bs (h .1))
+
+pub true-split : (xs ys : List Bool) → AllTrue (xs ++ ys) → AllTrue xs × AllTrue ys
+true-split [] ys h = (tt, h)
+true-split (x ∷ xs) ys h = let r = true-split xs ys (h .1) in ((h .0, r .0), r .1)
+
+pub true-join : (xs ys : List Bool) → AllTrue xs → AllTrue ys → AllTrue (xs ++ ys)
+true-join [] ys h k = k
+true-join (x ∷ xs) ys h k = (h .0, true-join xs ys (h .1) k)
+
+-- what every request that passes has passed: the sizes, and place 11
+module _ (m : ℕ) (s : State) (t : List ℕ) (q : Request) (b : List ℕ) (h : Passed (checks m s t q b)) where
+  abbrev p : Places
+  p = places m s t q b
+
+  abbrev nonces : List Check
+  nonces = noncesLeft s t (grant m t q b) ∷ []
+
+  parted : Passed (needAll atRequest (sizes m t ++ p .request)) × Passed (p .tokens ++ (p .rest ++ nonces))
+  parted = passed-split (needAll atRequest (sizes m t ++ p .request)) (p .tokens ++ (p .rest ++ nonces)) h
+
+  pub sizes-passed : AllTrue (sizes m t)
+  sizes-passed = true-split (sizes m t) (p .request) (needed atRequest (sizes m t ++ p .request) (parted .0)) .0
+
+  pub nonces-passed : book s t (grant m t q b) .state .next ≤ spent
+  nonces-passed =
+      let rest = passed-split (p .tokens) (p .rest ++ nonces) (parted .1) .1 in
+      leb-true (book s t (grant m t q b) .state .next) spent (passed-split (p .rest) nonces rest .1 .0)
+
+-- what holds of a pass, with the checks passed, and of every stop, holds of the verdict
+by-checks : (P : Verdict → Type 0) (cs : List Check) → (Passed cs → P pass) → ((r : Refusal) → P (stop r)) → P (verdict cs)
+by-checks P [] f g = f tt
+by-checks P (c ∷ cs) f g = by-cond P (c .holds) (λ h. by-checks P cs (λ p. f (h, p)) g) (λ h. g (c .refusal))
+
+-- and so of the decision on a request
+pub by-decision : (P : Decision → Type 0) (m : ℕ) (s : State) (t : List ℕ) (q : Request) (b : List ℕ)
+    → (Passed (checks m s t q b) → P (carried s t (grant m t q b)))
+    → ((r : Refusal) → P (refused s t r))
     → P (decide m s t q b)
 unfolding decide
-decided P m s t q b f g = by-verdict (λ (v : Verdict). P (settle v m s t q b)) (checks m s t q b) (all-proper m s t q b) f g
-
--- what is granted is no refusal
-granted-zero : (m : ℕ) (s : State) (t : List ℕ) (q : Request) (b : List ℕ) → grant m s t q b .reply .refusal ≡ 0
-granted-zero m s t (reset k0 k1 ν) b = refl
-granted-zero m s t (access w k u) b = refl
-granted-zero m s t (create k u l x p c) b =
-    by-cond (λ (d : Decision). d .reply .refusal ≡ 0) (eqb l (at t (numberOf k) .length)) (λ e. refl) (λ e. refl)
-granted-zero m s t (merge j k u c) b = refl
-granted-zero m s t (derive k o l p c) b = refl
-granted-zero m s t (executeOnly k c) b = refl
-granted-zero m s t (clone k) b = refl
-granted-zero m s t (release k) b = refl
-granted-zero m s t (lock k u) b = refl
-granted-zero m s t (unlock k u) b = refl
-granted-zero m s t (revoke k c) b = refl
+by-decision P m s t q b f g = by-checks (λ (v : Verdict). P (settle v s t (grant m t q b))) (checks m s t q b) f g
 
 -- ---- a call
 
@@ -127,19 +123,19 @@ module _ (σ : Machine) (q : Call) where
   cs = checks (length (σ .memory)) (σ .state) (σ .table) (q .request) (q .buffer)
 
   abbrev given : Decision
-  given = grant (length (σ .memory)) (σ .state) (σ .table) (q .request) (q .buffer)
+  given = carried (σ .state) (σ .table) (grant (length (σ .memory)) (σ .table) (q .request) (q .buffer))
 
   -- it is accepted, having passed its checks, and does what `grant` says; or it is refused
   pub data Turned : Type 0 where
     taken : Accepted σ q → Passed cs → decision σ q ≡ given → Turned
-    away : (r p : ℕ) → Told r p → decision σ q ≡ refused (σ .state) (σ .table) r p → (Accepted σ q → ⊥) → Turned
+    away : (r : Refusal) → decision σ q ≡ refused (σ .state) (σ .table) r → (Accepted σ q → ⊥) → Turned
 
   pub turned : Turned
   unfolding answer
   turned =
-      decided (λ (d : Decision). decision σ q ≡ d → Turned) (length (σ .memory)) (σ .state) (σ .table) (q .request) (q .buffer)
-      (λ p e. taken (ap number e ∙ granted-zero (length (σ .memory)) (σ .state) (σ .table) (q .request) (q .buffer)) p e)
-      (λ r p told e. away r p told e (λ a. omega (arith, told .least, ap number e)))
+      by-decision (λ (d : Decision). decision σ q ≡ d → Turned) (length (σ .memory)) (σ .state) (σ .table) (q .request) (q .buffer)
+      (λ p e. taken (ap number e) p e)
+      (λ r e. away r e (λ a. omega (arith, tells r .least, ap number e)))
       refl
     where
       number : Decision → ℕ
@@ -150,4 +146,4 @@ module _ (σ : Machine) (q : Call) where
     where
       go : Turned → Passed cs × (decision σ q ≡ given)
       go (taken b p e) = (p, e)
-      go (away r p told e n) = absurd (n a)
+      go (away r e n) = absurd (n a)

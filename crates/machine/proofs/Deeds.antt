@@ -1,36 +1,38 @@
 -- What each granted request but a reset does, as a Deed.
 -- Assumes nothing.
 use mathlib.Core.Path.{_≡_, refl, sym, ap, subst, _∙_}
-use mathlib.Core.Logic.{_≢_}
-use mathlib.Core.List.{List, [], List·Memᴰ·head, List·Memᴰ·tail}
+use mathlib.Core.Logic.{_≢_, inl, inr}
+use mathlib.Core.List.{List, [], _∷_, List·Memᴰ·head, List·Memᴰ·tail}
 use mathlib.Core.Bool.{Bool, true, false, false≢true, not, _&&_, cond}
 use Prim.Native.Nat.{ℕ, zero, suc, _+_, _≤_, _<_, _^_}
 use native.Mathlib.Omega.{arith}
 use native.Mathlib.Decide.{decLt, ℕ-discrete}
 use lib.Bits.{and-le-l}
 use lib.Dec.{leb, ltb, eqb}
-use lib.ListN.{length, length-replicate}
+use lib.ListN.{length, length-replicate, replicate}
 use borrow.Author.Tests.{eqb-false, eqb-true, leb-true, ltb-false, ltb-true, ne-eqb, not-true}
 use Rattle.layout.specs.Entry.{direct, directFields, directWidths, free}
 use Rattle.bits.specs.Fields.{Fit}
 use Rattle.tokens.specs.Permissions.{X}
 use Rattle.tokens.specs.Token.{named}
 use Rattle.layout.specs.declared.entry.Entry.{Entry}
-use Rattle.machine.specs.Demand3.{above, In, IsReset, itself, Owns, Revokes}
+use Rattle.machine.specs.Demand3.{above, In, IsReset, itself, Owns, resets, Revokes, revokes}
 use Rattle.machine.specs.FromReset.{Has, Inside, owned}
-use Rattle.machine.specs.Issuing.{newNumber}
+use Rattle.machine.specs.Issuing.{issue, newNumber}
 use Rattle.machine.specs.Line.{dead, ill, isLocked, Line, linked, lineOf, lockedFrom, owner, ownerOf, parentNumber}
-use Rattle.machine.specs.Operations.{childOf, climb, Effect, grant, grantCreate, grantDerive, grantLock, grantMerge, grantRevoke, mergedOf, Name, namedEntry, nothing, numberOf, partOf, Reply, restOf, revokedOf, revokeNonce, transfer}
+use Rattle.machine.specs.Operations.{carried, childOf, climb, Effect, fresh, grant, grantCreate, grantDerive, grantLock, grantMerge, grantRelease, grantRevoke, issuing, mergedOf, namedEntry, nothing, numberOf, partOf, Reply, restOf, revokeNonce, store, transfer}
 use Rattle.machine.specs.Parts.{at, put, size, spent, State}
 use Rattle.machine.specs.Requests.{access, clone, create, derive, executeOnly, fetching, lock, merge, reading, release, Request, reset, revoke, taskOf, unlock, Way, writing}
 use Rattle.machine.specs.Stops.{checks}
+use Rattle.machine.specs.Writes.{Book, give, Name, opened, vacate, Write, write, written}
 use Rattle.machine.proofs.Basics.{neqb-true, owner-direct, parent, put-all, put2-all, range}
-use Rattle.machine.proofs.Choices.{by-both, by-cond}
+use Rattle.machine.proofs.Choices.{by-cond}
 use Rattle.machine.proofs.Decided.{Passed}
-use Rattle.machine.proofs.Fates.{core, Deed, Fate, gone, Inv, issued, kept, Shut, Source, Touches}
+use Rattle.machine.proofs.Fates.{core, Deed, Fate, gone, Inv, issued, kept, Shut, Source, spares, Touches}
 use Rattle.machine.proofs.Fuel.{Live, number-first, revoke-least, walk-owns}
 use Rattle.machine.proofs.Sums.{owned-direct, owned-other, sum-put2, sum-same}
 use Rattle.machine.proofs.TableLaws.{at-other, in-table, put-out, size-put}
+use Rattle.machine.proofs.WriteLaws.{Calm, calm-still, release-calm}
 use Rattle.machine.proofs.Written.{direct-fit, fitting, free-good, Good, issue-direct, issue-indirect, parent-named, recount-good, relock-good}
 
 -- nobody's bytes go to another owner
@@ -60,10 +62,14 @@ owner-open t (owner k) u v o h = false≢true (rw (h .locked, ne-eqb (at t k .ho
 owner-open t (dead k) u v o h = false≢true (v .1)
 owner-open t (ill k) u v o h = false≢true (v .0)
 
+-- what one store touches, and a transfer
+once-stored : (a : ℕ) (bs : List ℕ) (x : ℕ) → Touches (store a bs) x → (a ≤ x) × (x < a + length bs)
+once-stored a bs x (inl (inl h)) = h
+
 touched : (w : Way) (a : ℕ) (b : List ℕ) (x : ℕ) → Touches (transfer w a b) x → (a ≤ x) × (x < a + length b)
-touched reading a b x h = h
-touched writing a b x h = h
-touched fetching a b x h = h
+touched reading a b x (inr h) = h
+touched writing a b x h = once-stored a b x h
+touched fetching a b x (inr h) = h
 
 module _ (m : ℕ) (s : State) (t : List ℕ) (inv : Inv m s t) where
   unmoved : (q : Request) (ν : ℕ) (ks : List Name) (n : ℕ) → Fate s t q ν ks stay n (at t n)
@@ -79,7 +85,7 @@ module _ (m : ℕ) (s : State) (t : List ℕ) (inv : Inv m s t) where
   deed-none q {s′} up sp =
       record { up = up; moves = stay; fate = unmoved q (s′ .next) []; carried = λ n x h. h; spared = sp; good = inv .good; long = refl; sum = refl }
 
-  deed-access : (w : Way) (k u : ℕ) (b : List ℕ) → Passed (checks m s t (access w k u) b) → Deed m s t (access w k u) (grant m s t (access w k u) b)
+  deed-access : (w : Way) (k u : ℕ) (b : List ℕ) → Passed (checks m s t (access w k u) b) → Deed m s t (access w k u) (carried s t (grant m t (access w k u) b))
   deed-access w k u b h =
       deed-none (access w k u) (omega arith)
       (λ i x sh nr tc ins.
@@ -140,7 +146,7 @@ module _ (m : ℕ) (s : State) (t : List ℕ) (inv : Inv m s t) where
         moves = g;
         fate = each (λ i y. Fate s t q (s′ .next) ks g i y) nb pa (λ i j k. kept refl (λ x h. others i j k x) (λ h. (refl, refl)));
         carried = λ i x h. moved-to i x h (ℕ-discrete i n) (ℕ-discrete i p);
-        spared = λ i x sh nr tc ins. tc;
+        spared = λ i x sh nr tc ins. spares x tc;
         good = each (λ i y. Good m y) gb ga (λ i j k. inv .good i);
         long = size-put (put t p a) n b ∙ size-put t p a;
         sum = sum-put2 t p n a b (ga .storable) (gb .storable) hp hn d sum;
@@ -169,13 +175,13 @@ module _ (m : ℕ) (s : State) (t : List ℕ) (inv : Inv m s t) where
 
   -- derive and execute-only: a child in the segment of n
   deed-derive : (q : Request) (n o l p c : ℕ) → at t n .kind ≢ 0 → newNumber s t ≢ 0 → 0 < l → o + l ≤ at t n .length → p < 8 → at t n .count < 65535 → s .next + 1 ≤ spent
-      → Deed m s t q (grantDerive s t n o l p c)
+      → Deed m s t q (carried s t (grantDerive t n o l p c))
   deed-derive q n o l p c k f pos b hp hc hn =
       let in-n : n < size t = in-table t n k in
       let most : size t ≤ 1024 = inv .most in
       let low : n < 1024 = omega arith in
       let whole = range m (at t n) k (inv .good n .formed) in
-      let named-n : parentNumber (childOf s t n o l p) ≡ n = parent-named m n (at t n) (inv .good n) low in
+      let named-n : parentNumber (childOf n (at t n) o l p (s .next)) ≡ n = parent-named m n (at t n) (inv .good n) low in
       deed-put2 q stay
       (omega arith)
       (issue-indirect m s (newNumber s t) n (inv .small) (inv .good n) low pos (omega arith) hp (omega arith))
@@ -212,10 +218,9 @@ module _ (m : ℕ) (s : State) (t : List ℕ) (inv : Inv m s t) where
       by-cond (λ r. k ≡ r) (eqb k n) (λ i. absurd (h (eqb-true k n i))) (λ i. refl)
 
   deed-create : (q : Request) (n l u p c : ℕ) → at t n .kind ≡ 1 → at t n .locked ≡ false → 0 < l → l ≤ at t n .length → newNumber s t ≢ 0
-      → u < 2 ^ 64 → p < 8 → s .next + cond (eqb l (at t n .length)) 1 2 ≤ spent → Deed m s t q (grantCreate s t n l u p c)
+      → u < 2 ^ 64 → p < 8 → carried s t (grantCreate t n l u p c) .state .next ≤ spent → Deed m s t q (carried s t (grantCreate t n l u p c))
   deed-create q n l u p c k z pos b f hu hp hn =
-      -- the number of nonces taken is 1 or 2 with the same test as the outcome
-      by-both (λ d i. s .next + i ≤ spent → Deed m s t q d) (eqb l (at t n .length))
+      by-cond (λ w. let d = carried s t (issuing c (give (partOf (at t n) l u p) ∷ w ∷ [])) in d .state .next ≤ spent → Deed m s t q d) (eqb l (at t n .length))
       (λ e v.
       let same : l ≡ at t n .length = eqb-true l (at t n .length) e in
       deed-put2 q (split n new y) (omega arith)
@@ -249,10 +254,10 @@ module _ (m : ℕ) (s : State) (t : List ℕ) (inv : Inv m s t) where
       y = at t n .base + l
 
       a : Entry
-      a = partOf s t (at t n) l u p
+      a = issue s new (partOf (at t n) l u p (s .next))
 
       r : Entry
-      r = restOf s n (at t n) l
+      r = issue s n (restOf (at t n) l (s .next + 1))
 
       whole : (0 < at t n .length) × (at t n .base + at t n .length ≤ m)
       whole = range m (at t n) (omega arith) (inv .good n .formed)
@@ -293,7 +298,7 @@ module _ (m : ℕ) (s : State) (t : List ℕ) (inv : Inv m s t) where
   fuse-other n k i x h = by-cond (λ r. i ≡ r) (eqb i k) (λ j. absurd (h (eqb-true i k j))) (λ j. refl)
 
   deed-merge : (q : Request) (n k c : ℕ) → at t n .kind ≡ 1 → at t k .kind ≡ 1 → at t n .locked ≡ false → at t k .locked ≡ false
-      → at t k .base ≡ at t n .base + at t n .length → s .next + 1 ≤ spent → Deed m s t q (grantMerge s t n k c)
+      → at t k .base ≡ at t n .base + at t n .length → s .next + 1 ≤ spent → Deed m s t q (carried s t (grantMerge t n k c))
   deed-merge q n k c d d′ z z′ b hn =
       let whole = range m (at t n) (omega arith) (inv .good n .formed) in
       let whole′ = range m (at t k) (omega arith) (inv .good k .formed) in
@@ -312,7 +317,7 @@ module _ (m : ℕ) (s : State) (t : List ℕ) (inv : Inv m s t) where
       (λ x h. second (fuse-second n k x) (refl, omega (arith, h .inside)))
     where
       a : Entry
-      a = mergedOf s n (at t n) (at t k)
+      a = mergedOf (at t n) (at t k) (s .next)
 
       unlocked : {e : Entry} → Shut (taskOf q) e → e .locked ≡ false → ⊥
       unlocked h e = let one : _≡_ {A = ℕ} 0 1 = cc (h .locked) in omega arith
@@ -355,37 +360,47 @@ module _ (m : ℕ) (s : State) (t : List ℕ) (inv : Inv m s t) where
           }
       go (no i) = rw (put-out u n e (omega arith)) (record { each = λ k. same (at u k); good = gs; long = refl })
 
-  climb-fades : (f : ℕ) (u : List ℕ) (n : ℕ) → ((k : ℕ) → Good m (at u k)) → Fading u (climb f u n)
+  climb-fades : (f : ℕ) (s : State) (u : List ℕ) (n : ℕ) → ((k : ℕ) → Good m (at u k)) → Fading u (written 0 (opened s u) (climb f u n) .table)
   unfolding climb
-  climb-fades zero u n gs = record { each = λ k. same (at u k); good = gs; long = refl }
-  climb-fades (suc f) u n gs =
-      by-cond (Fading u) (leb 2 (at u n .count))
+  climb-fades zero s u n gs = record { each = λ k. same (at u k); good = gs; long = refl }
+  climb-fades (suc f) s u n gs =
+      by-cond Left (leb 2 (at u n .count))
       (λ i. put-fades u gs n (stays refl refl refl)
       (recount-good m (gs n) (fitting m (at u n) (gs n) .counted (omega (arith, leb-true 2 (at u n .count) i))) (omega (arith, fitting m (at u n) (gs n)))))
-      (λ i. by-cond (Fading u) (eqb (at u n .count) 0) (λ z. record { each = λ k. same (at u k); good = gs; long = refl })
-      (λ z. by-cond (Fading u) (eqb (at u n .kind) 1)
+      (λ i. by-cond Left (eqb (at u n .count) 0) (λ z. record { each = λ k. same (at u k); good = gs; long = refl })
+      (λ z. by-cond Left (eqb (at u n .kind) 1)
       (λ j. put-fades u gs n (stays refl refl refl) (recount-good m (gs n) (omega (arith, eqb-true (at u n .kind) 1 j)) (omega arith)))
       (λ j.
       let once : Fading u (put u n free) = put-fades u gs n (freed refl (eqb-false (at u n .kind) 1 j)) (free-good m) in
-      by-cond (Fading u) (linked u (at u n))
+      by-cond (λ ws. Left (vacate n ∷ ws)) (linked u (at u n))
       (λ v.
-      let more : Fading (put u n free) (climb f (put u n free) (parentNumber (at u n))) = climb-fades f (put u n free) (parentNumber (at u n)) (once .good) in
+      let more = climb-fades f (write 0 (opened s u) (vacate n) .state) (put u n free) (parentNumber (at u n)) (once .good) in
       record { each = λ k. fades-fades (once .each k) (more .each k); good = more .good; long = more .long ∙ once .long })
       (λ v. once))))
+    where
+      Left : List Write → Type 0
+      Left ws = Fading u (written 0 (opened s u) ws .table)
 
-  deed-fading : (q : Request) {t′ : List ℕ} {r : Reply} → Fading t t′ → Deed m s t q (record { state = s; table = t′; reply = r; issued = []; effect = nothing })
-  deed-fading q {t′} f =
+  -- writes that issue nothing, after which the table has faded
+  deed-fading : (q : Request) (ws : List Write) (k : ℕ) → Calm ws → Fading t (written 0 (opened s t) ws .table) → Deed m s t q (carried s t (record { writes = ws; encoding = 0; dropped = k; effect = nothing }))
+  deed-fading q ws k c f =
       record {
-        up = omega arith;
+        up = omega (arith, ap (λ (x : State). x .next) (calm-still 0 (opened s t) ws c .state));
         moves = stay;
         fate = λ n. go n (f .each n);
         carried = λ n x h. bytes n x h (f .each n);
-        spared = λ n x sh nr tc ins. tc;
+        spared = λ n x sh nr tc ins. spares x tc;
         good = f .good;
         long = f .long;
         sum = sum-same t t′ (f .long) (λ n. sums n (f .each n));
       }
     where
+      b′ : Book
+      b′ = written 0 (opened s t) ws
+
+      t′ : List ℕ
+      t′ = b′ .table
+
       sums : (n : ℕ) → Fades (at t n) (at t′ n) → owned (at t′ n) ≡ owned (at t n)
       sums n (stays i j h) = ap (λ (x : Entry). owned x) i
       sums n (freed i j) = owned-other (at t′ n) (omega arith) ∙ sym (owned-other (at t n) j)
@@ -394,28 +409,26 @@ module _ (m : ℕ) (s : State) (t : List ℕ) (inv : Inv m s t) where
       bytes n x h (stays i j k) = record { direct = ap (λ (y : Entry). y .kind) i ∙ h .direct; inside = subst (λ (y : Entry). In y x) (sym i) (h .inside) }
       bytes n x h (freed i j) = absurd (j (h .direct))
 
-      go : (n : ℕ) → Fades (at t n) (at t′ n) → Fate s t q (s .next) [] stay n (at t′ n)
+      go : (n : ℕ) → Fades (at t n) (at t′ n) → Fate s t q (b′ .state .next) (b′ .issued) stay n (at t′ n)
       go n (stays i j k) = kept i (λ x h. refl) (λ h. (j, k))
       go n (freed i j) = gone i (λ h. j (h .direct))
 
-  deed-release : (k : ℕ) (b : List ℕ) → Deed m s t (release k) (grant m s t (release k) b)
+  deed-release : (k : ℕ) (b : List ℕ) → Deed m s t (release k) (carried s t (grant m t (release k) b))
   deed-release k b =
       let n : ℕ = numberOf k in
-      let one : Bool = eqb (at t n .count) 1 in
-      let locked : Bool = isLocked t (lineOf m t n) in
-      deed-fading (release k)
-      (by-cond (Fading t) (one && locked)
+      deed-fading (release k) (grantRelease m t n .writes) (grantRelease m t n .dropped) (release-calm m t n)
+      (by-cond (λ ws. Fading t (written 0 (opened s t) ws .table)) (eqb (at t n .count) 1 && isLocked t (lineOf m t n))
       (λ i. record { each = λ n. same (at t n); good = inv .good; long = refl })
-      (λ i. climb-fades (suc (at t n .nonce)) t n (inv .good)))
+      (λ i. climb-fades (suc (at t n .nonce)) s t n (inv .good)))
 
   -- ---- revoke and locks
 
-  pub revoked-good : (n : ℕ) → at t n .kind ≡ 1 → revokeNonce s t n < spent → Good m (revokedOf s t n)
+  pub revoked-good : (n : ℕ) → at t n .kind ≡ 1 → revokeNonce s t n < spent → Good m (issue s n (fresh (at t n) (revokeNonce s t n)))
   revoked-good n d hn =
       let whole = range m (at t n) (omega arith) (inv .good n .formed) in
       issue-direct m s n (inv .small) (whole .0) (whole .1) (omega arith) (omega arith) (omega arith)
 
-  deed-revoke : (k c : ℕ) → at t (numberOf k) .kind ≡ 1 → revokeNonce s t (numberOf k) < spent → Deed m s t (revoke k c) (grantRevoke s t (numberOf k) c)
+  deed-revoke : (k c : ℕ) → at t (numberOf k) .kind ≡ 1 → revokeNonce s t (numberOf k) < spent → Deed m s t (revoke k c) (carried s t (grantRevoke t (numberOf k) c))
   deed-revoke k c d hn =
       let n : ℕ = numberOf k in
       let up : s .next ≤ revokeNonce s t n = revoke-least s t n in
@@ -423,12 +436,14 @@ module _ (m : ℕ) (s : State) (t : List ℕ) (inv : Inv m s t) where
       (revoked-good n d hn)
       (omega arith)
       (record { kind = sym d; base = refl; length = refl })
-      (issued (omega arith) (omega arith) (List·Memᴰ·head refl) (λ h. absurd (omega arith)) (λ h x i. record { from = n; has = record { direct = d; inside = i }; to = refl }) (λ h. refl))
-      (λ i x sh nr tc ins. nr (inv .tiled n i x (record { direct = d; inside = (tc .0, omega (arith, simp (length-replicate) at (tc .1))) }) (record { direct = sh .direct; inside = ins })))
+      (issued (omega arith) (omega arith) (List·Memᴰ·head refl) (λ h. absurd (omega arith)) (λ h x i. record { from = n; has = record { direct = d; inside = i }; to = refl }) (λ h. revokes refl))
+      (λ i x sh nr tc ins.
+      let there = once-stored (at t n .base) (replicate (at t n .length) 0) x tc in
+      nr (revokes (inv .tiled n i x (record { direct = d; inside = (there .0, omega (arith, simp (length-replicate) at (there .1))) }) (record { direct = sh .direct; inside = ins }))))
 
   -- lock and unlock write the lock at the owner of a line that is open to the task
   deed-lock : (q : Request) (n : ℕ) (locked : Bool) (h : ℕ) → not (eqb (at t n .kind) 0) ≡ true → Live (lineOf m t n) → not (lockedFrom t (taskOf q) (lineOf m t n)) ≡ true
-      → h < 2 ^ 55 → (locked && eqb h 0) ≡ false → (not locked && not (eqb h 0)) ≡ false → Deed m s t q (grantLock s t (ownerOf (lineOf m t n)) locked h)
+      → h < 2 ^ 55 → (locked && eqb h 0) ≡ false → (not locked && not (eqb h 0)) ≡ false → Deed m s t q (carried s t (grantLock t (ownerOf (lineOf m t n)) locked h))
   deed-lock q n locked h k v o hh a b =
       let l : Line = lineOf m t n in
       let d : at t (ownerOf l) .kind ≡ 1 = owner-direct (owns n k v) in
@@ -437,12 +452,12 @@ module _ (m : ℕ) (s : State) (t : List ℕ) (inv : Inv m s t) where
       (omega arith)
       (record { kind = refl; base = refl; length = refl })
       (kept refl (λ x h. refl) (λ i. absurd (owner-open t l (taskOf q) v o i)))
-      (λ i x sh nr tc ins. tc)
+      (λ i x sh nr tc ins. spares x tc)
 
   -- ---- every granted request but a reset
 
-  pub deed-granted : (q : Request) (b : List ℕ) → (IsReset q → ⊥) → Passed (checks m s t q b) → Deed m s t q (grant m s t q b)
-  deed-granted (reset k0 k1 ν) b nr h = absurd (nr tt)
+  pub deed-granted : (q : Request) (b : List ℕ) → (IsReset q → ⊥) → Passed (checks m s t q b) → Deed m s t q (carried s t (grant m t q b))
+  deed-granted (reset k0 k1 ν) b nr h = absurd (nr resets)
   deed-granted (access w k u) b nr h = deed-access w k u b h
   deed-granted (create k u l x p c) b nr h =
       let e : Entry = namedEntry t k in
@@ -454,7 +469,7 @@ module _ (m : ℕ) (s : State) (t : List ℕ) (inv : Inv m s t) where
       (neqb-true (newNumber s t) 0 (search))
       (ltb-true x (2 ^ 64) (search))
       (omega (arith, leb-true p 7 (search)))
-      (leb-true (s .next + cond (eqb l (e .length)) 1 2) spent (search))
+      (leb-true _ _ (search))
   deed-granted (merge j k u c) b nr h =
       let d : Entry = namedEntry t j in
       let e : Entry = namedEntry t k in
@@ -491,10 +506,10 @@ module _ (m : ℕ) (s : State) (t : List ℕ) (inv : Inv m s t) where
       let full : e .kind ≢ 0 = neqb-true (e .kind) 0 (search) in
       deed-put (clone k) (omega arith)
       (recount-good m (inv .good (numberOf k)) full (omega (arith, ltb-true (e .count) 65535 (search))))
-      full (record { kind = refl; base = refl; length = refl }) (kept refl (λ x h. refl) (λ h. (refl, refl))) (λ i x sh nr tc ins. tc)
+      full (record { kind = refl; base = refl; length = refl }) (kept refl (λ x h. refl) (λ h. (refl, refl))) (λ i x sh nr tc ins. spares x tc)
   deed-granted (release k) b nr h = deed-release k b
   deed-granted (lock k u) b nr h =
       deed-lock (lock k u) (numberOf k) true u (search) (search, search) (search) (ltb-true u (2 ^ 55) (search)) (not-true _ (search)) refl
   deed-granted (unlock k u) b nr h = deed-lock (unlock k u) (numberOf k) false 0 (search) (search, search) (search) (omega arith) refl refl
   deed-granted (revoke k c) b nr h =
-      deed-revoke k c (eqb-true (namedEntry t k .kind) 1 (search)) (ltb-true (revokeNonce s t (numberOf k)) spent (search))
+      deed-revoke k c (eqb-true (namedEntry t k .kind) 1 (search)) (omega (arith, leb-true (revokeNonce s t (numberOf k) + 1) spent (search)))

@@ -1,27 +1,32 @@
 -- What an effect does to memory and buffer.
 -- Assumes nothing.
 use mathlib.Core.Path.{_≡_, refl, sym, _∙_}
+use mathlib.Core.Logic.{inl, inr}
 use mathlib.Core.List.{List, [], _∷_}
 use Prim.Native.Nat.{ℕ, zero, suc, _+_, _≤_, _<_}
 use native.Mathlib.Omega.{arith}
 use native.Mathlib.Decide.{decLt, ℕ-discrete}
 use lib.ListN.{length, getD, set, replicate, length-set, List·getD-eq-default}
 use lib.Seq.{sets, length-sets, getD-set-same, getD-set-other, set-out}
-use Rattle.machine.specs.Operations.{Effect, load, nothing, store}
-use Rattle.machine.specs.Steps.{bufferAfter, memoryAfter}
-use Rattle.machine.proofs.Fates.{Touches}
+use Rattle.machine.specs.Operations.{Effect, Fill, fillFrom, Store, unfilled}
+use Rattle.machine.specs.Steps.{bufferAfter, filled, memoryAfter, stored}
+use Rattle.machine.proofs.Fates.{Filled, Stored, Touches}
 use Rattle.machine.proofs.SliceLaws.{sets-other, slice-agree}
 
+stored-long : (ws : List Store) (m : List ℕ) → length (stored ws m) ≡ length m
+stored-long [] m = refl
+stored-long (w ∷ ws) m = stored-long ws (sets m (w .start) (w .bytes)) ∙ length-sets m (w .start) (w .bytes)
+
 pub memory-long : (f : Effect) (m : List ℕ) → length (memoryAfter f m) ≡ length m
-memory-long nothing m = refl
-memory-long (load a n) m = refl
-memory-long (store a bs) m = length-sets m a bs
+memory-long f m = stored-long (f .stores) m
 
 -- a byte that it does not touch
+stored-other : (ws : List Store) (m : List ℕ) (x : ℕ) → (Stored ws x → ⊥) → getD (stored ws m) x 0 ≡ getD m x 0
+stored-other [] m x h = refl
+stored-other (w ∷ ws) m x h = stored-other ws (sets m (w .start) (w .bytes)) x (λ i. h (inr i)) ∙ sets-other m (w .start) (w .bytes) x (λ i. h (inl i))
+
 pub memory-other : (f : Effect) (m : List ℕ) (x : ℕ) → (Touches f x → ⊥) → getD (memoryAfter f m) x 0 ≡ getD m x 0
-memory-other nothing m x h = refl
-memory-other (load a n) m x h = refl
-memory-other (store a bs) m x h = sets-other m a bs x h
+memory-other f m x h = stored-other (f .stores) m x (λ i. h (inl i))
 
 -- the same store in two memories that agree at x
 set-agree : (m m′ : List ℕ) (a b x : ℕ) → length m ≡ length m′ → getD m x 0 ≡ getD m′ x 0 → getD (set m a b) x 0 ≡ getD (set m′ a b) x 0
@@ -36,16 +41,23 @@ sets-agree : (m m′ : List ℕ) (a : ℕ) (bs : List ℕ) (x : ℕ) → length 
 sets-agree m m′ a [] x l h = h
 sets-agree m m′ a (b ∷ bs) x l h = sets-agree (set m a b) (set m′ a b) (suc a) bs x (length-set m a b ∙ l ∙ sym (length-set m′ a b)) (set-agree m m′ a b x l h)
 
+stored-agree : (ws : List Store) (m m′ : List ℕ) (x : ℕ) → length m ≡ length m′ → getD m x 0 ≡ getD m′ x 0 → getD (stored ws m) x 0 ≡ getD (stored ws m′) x 0
+stored-agree [] m m′ x l h = h
+stored-agree (w ∷ ws) m m′ x l h =
+    let a : ℕ = w .start in
+    let bs : List ℕ = w .bytes in
+    stored-agree ws (sets m a bs) (sets m′ a bs) x (length-sets m a bs ∙ l ∙ sym (length-sets m′ a bs)) (sets-agree m m′ a bs x l h)
+
 pub memory-agree : (f : Effect) (m m′ : List ℕ) (x : ℕ) → length m ≡ length m′ → getD m x 0 ≡ getD m′ x 0 → getD (memoryAfter f m) x 0 ≡ getD (memoryAfter f m′) x 0
-memory-agree nothing m m′ x l h = h
-memory-agree (load a n) m m′ x l h = h
-memory-agree (store a bs) m m′ x l h = sets-agree m m′ a bs x l h
+memory-agree f m m′ x l h = stored-agree (f .stores) m m′ x l h
 
 -- what is read from two memories that agree where it is read
+filled-agree : (f : Fill) (m m′ b : List ℕ) → length m ≡ length m′ → ((x : ℕ) → Filled f x → getD m x 0 ≡ getD m′ x 0) → filled f m b ≡ filled f m′ b
+filled-agree unfilled m m′ b l h = refl
+filled-agree (fillFrom a n) m m′ b l h = slice-agree m m′ a n l h
+
 pub buffer-agree : (f : Effect) (m m′ b : List ℕ) → length m ≡ length m′ → ((x : ℕ) → Touches f x → getD m x 0 ≡ getD m′ x 0) → bufferAfter f m b ≡ bufferAfter f m′ b
-buffer-agree nothing m m′ b l h = refl
-buffer-agree (load a n) m m′ b l h = slice-agree m m′ a n l h
-buffer-agree (store a bs) m m′ b l h = refl
+buffer-agree f m m′ b l h = filled-agree (f .fill) m m′ b l (λ x i. h x (inr i))
 
 -- zeros that were stored
 set-zero : (m : List ℕ) (a x : ℕ) → getD m x 0 ≡ 0 → getD (set m a 0) x 0 ≡ 0

@@ -1,9 +1,9 @@
 -- What a request does to each entry, and what follows from that alone: what holds from reset on, old entries, new tokens, locks.
 -- Assumes nothing.
 use mathlib.Core.Path.{_≡_, refl, sym, ap, subst, _∙_}
-use mathlib.Core.Logic.{_≢_}
+use mathlib.Core.Logic.{_≢_, _⊎_, inl, inr}
 use mathlib.Core.Bool.{true, false}
-use mathlib.Core.List.{List, List·Memᴰ}
+use mathlib.Core.List.{List, [], _∷_, List·Memᴰ}
 use Prim.Native.Nat.{ℕ, _+_, _≤_, _<_}
 use native.Mathlib.Omega.{arith}
 use lib.ListN.{length}
@@ -11,9 +11,10 @@ use Rattle.layout.specs.declared.entry.Entry.{Entry}
 use Rattle.machine.specs.Demand3.{In, Linked, Revokes}
 use Rattle.machine.specs.FromReset.{Has, Inside, Owned, ownedInAll}
 use Rattle.machine.specs.Line.{links, parentNumber}
-use Rattle.machine.specs.Operations.{Decision, Effect, load, Name, nameOf, nothing, store}
+use Rattle.machine.specs.Operations.{Decision, Effect, Fill, fillFrom, nothing, Store, unfilled}
 use Rattle.machine.specs.Parts.{at, mostEntries, mostMemory, size, State}
 use Rattle.machine.specs.Requests.{Request, taskOf}
+use Rattle.machine.specs.Writes.{Name, nameOf}
 use Rattle.machine.proofs.Basics.{Link, link, parent}
 use Rattle.machine.proofs.Written.{Good}
 
@@ -87,11 +88,22 @@ pub data Fate (s : State) (t : List ℕ) (q : Request) (ν : ℕ) (ks : List Nam
       → (Shut (taskOf q) (at t n) → Revokes q n)
       → Fate s t q ν ks g n e′
 
+-- byte x is stored, or read
+abbrev pub Stored : List Store → ℕ → Type 0
+Stored [] x = ⊥
+Stored (w ∷ ws) x = ((w .start ≤ x) × (x < w .start + length (w .bytes))) ⊎ Stored ws x
+
+abbrev pub Filled : Fill → ℕ → Type 0
+Filled unfilled x = ⊥
+Filled (fillFrom a n) x = (a ≤ x) × (x < a + n)
+
 -- the effect reads or writes byte x
 abbrev pub Touches : Effect → ℕ → Type 0
-Touches nothing x = ⊥
-Touches (load a n) x = (a ≤ x) × (x < a + n)
-Touches (store a bs) x = (a ≤ x) × (x < a + length bs)
+Touches f x = Stored (f .stores) x ⊎ Filled (f .fill) x
+
+pub spares : (x : ℕ) → Touches nothing x → ⊥
+spares x (inl h) = h
+spares x (inr h) = h
 
 -- what each request but a reset does, granted or not
 pub record Deed (m : ℕ) (s : State) (t : List ℕ) (q : Request) (d : Decision) : Type 0 where

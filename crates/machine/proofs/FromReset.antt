@@ -1,12 +1,13 @@
 -- What holds from reset on does hold.
 -- Assumes nothing.
 use mathlib.Core.Path.{sym, _∙_}
+use mathlib.Core.List.{_++_}
 use lib.ListN.{length}
 use Rattle.machine.specs.Demand3.{resetCall}
 use Rattle.machine.specs.FromReset.{FromReset}
 use Rattle.machine.specs.Steps.{Machine, run, step}
-use Rattle.machine.specs.Stops.{settings}
-use Rattle.machine.proofs.Decided.{passing}
+use Rattle.machine.specs.Stops.{atRequest, needAll, settings, sizes}
+use Rattle.machine.proofs.Decided.{need-all, passing}
 use Rattle.machine.proofs.Settled.{settled-reset, settled-run}
 use Rattle.machine.proofs.Runs.{run-long, run-sum, run-well, sum-reset, Well, well-reset}
 
@@ -18,7 +19,9 @@ from-reset σ k0 k1 ν b ok after nr =
     let τ : Machine = run ρ after in
     let inv : Well τ = run-well ρ after first nr in
     record {
-      settled = passing (settings (length (τ .memory)) (τ .state) (τ .table)) (settled-run ρ after (settled-reset σ k0 k1 ν b ok));
+      settled =
+          let bs = sizes (length (τ .memory)) (τ .table) ++ settings (τ .state) (τ .table) in
+          passing (needAll atRequest bs) (need-all atRequest bs (settled-run ρ after nr (settled-reset σ k0 k1 ν b ok)));
       sum = run-sum ρ after first nr ∙ sum-reset σ k0 k1 ν b ok ∙ sym (run-long ρ after);
       one = inv .tiled;
       some = inv .covered;

@@ -3,7 +3,7 @@
 use mathlib.Core.Path.{_≡_, refl, ap, _∙_}
 use mathlib.Core.Logic.{_≢_}
 use mathlib.Core.Bool.{true, false, false≢true, not}
-use mathlib.Core.List.{List}
+use mathlib.Core.List.{List, _∷_}
 use Prim.Native.Nat.{ℕ, zero, suc, _+_, _-_, _≤_, _<_}
 use native.Mathlib.Omega.{arith}
 use native.Mathlib.Decide.{decLt, ℕ-discrete}
@@ -20,6 +20,7 @@ use Rattle.machine.specs.Line.{isDead, isIll, Line, linked, lineOf, owne
 use Rattle.machine.specs.Operations.{climb, fresh, revokeNonce}
 use Rattle.machine.specs.Parts.{at, put, size, spent, State}
 use Rattle.machine.specs.Searches.{FirstFree, FirstOther, NoneFree, onward, SameTag}
+use Rattle.machine.specs.Writes.{vacate, Write}
 use Rattle.machine.proofs.Basics.{link, parent}
 use Rattle.machine.proofs.Choices.{by-both, by-cond}
 use Rattle.machine.proofs.TableLaws.{at-other}
@@ -78,7 +79,7 @@ walk-fuel (suc f) (suc g) m t n h i =
 pub line-enough : (f m : ℕ) (t : List ℕ) (n : ℕ) → at t n .nonce < f → walk f m t n ≡ lineOf m t n
 line-enough f m t n h = walk-fuel f (suc (at t n .nonce)) m t n h (omega arith)
 
--- two fuels above the first entry's nonce give the same table
+-- two fuels above the first entry's nonce give the same writes
 pub climb-fuel : (f g : ℕ) (t : List ℕ) (n : ℕ) → at t n .nonce < f → at t n .nonce < g → climb f t n ≡ climb g t n
 unfolding climb
 climb-fuel zero g t n h i = absurd (omega arith)
@@ -87,16 +88,16 @@ climb-fuel (suc f) (suc g) t n h i =
     by-both Same (leb 2 (at t n .count)) (λ c. refl)
     (λ c. by-both Same (eqb (at t n .count) 0) (λ z. refl)
     (λ z. by-both Same (eqb (at t n .kind) 1) (λ d. refl)
-    (λ d. by-both Same (linked t (at t n))
+    (λ d. by-both (λ x y. Same (vacate n ∷ x) (vacate n ∷ y)) (linked t (at t n))
     (λ l. let p : ℕ = parentNumber (at t n) in
     let o : at t p .nonce < at t n .nonce = link (at t n) (parent t n) l .older in
     -- the parent is another entry, so that it is still there when the child is freed
     let apart : p ≢ n = λ e. omega (arith, ap (λ (k : ℕ). at t k .nonce) e) in
     let e : at (put t n free) p .nonce ≡ at t p .nonce = ap (λ (x : Entry). x .nonce) (at-other t n p free apart) in
-    climb-fuel f g (put t n free) p (omega arith) (omega arith))
+    ap (λ ws. vacate n ∷ ws) (climb-fuel f g (put t n free) p (omega arith) (omega arith)))
     (λ l. refl))))
   where
-    Same : List ℕ → List ℕ → Type 0
+    Same : List Write → List Write → Type 0
     Same x y = x ≡ y
 
 -- ---- a new number

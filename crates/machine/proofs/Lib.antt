@@ -9,6 +9,7 @@ pub mod Fates
 pub mod FromReset
 pub mod Fuel
 pub mod Given
+pub mod Grants
 pub mod Lent
 pub mod Refused
 pub mod Runs
@@ -17,4 +18,5 @@ pub mod SliceLaws
 pub mod Sums
 pub mod TableLaws
 pub mod Theorem
+pub mod WriteLaws
 pub mod Written

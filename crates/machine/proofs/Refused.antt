@@ -4,7 +4,7 @@ use mathlib.Core.Logic.{_≢_}
 use Rattle.machine.specs.Refusals.{Told, Untouched}
 use Rattle.machine.specs.Requests.{Call}
 use Rattle.machine.specs.Steps.{answer, Machine, step}
-use Rattle.machine.proofs.Decided.{away, taken, Turned, turned}
+use Rattle.machine.proofs.Decided.{away, taken, tells, Turned, turned}
 
 pub refused-keeps : (σ : Machine) (q : Call) → answer σ q .reply .refusal ≢ 0 → Untouched σ q
 unfolding answer step
@@ -12,12 +12,12 @@ refused-keeps σ q h = go (turned σ q)
   where
     go : Turned σ q → Untouched σ q
     go (taken a p e) = absurd (h a)
-    go (away r p told e n) = record { machine = rw e; buffer = rw e; first = rw e; second = rw e; dropped = rw e; issued = rw e }
+    go (away r e n) = record { machine = rw e; buffer = rw e; tokens = rw e; dropped = rw e; issued = rw e }
 
-pub refused-tells : (σ : Machine) (q : Call) → answer σ q .reply .refusal ≢ 0 → Told (answer σ q .reply .refusal) (answer σ q .reply .place)
+pub refused-tells : (σ : Machine) (q : Call) → answer σ q .reply .refusal ≢ 0 → Told (answer σ q .reply .refusal) (answer σ q .reply .bad)
 unfolding answer
 refused-tells σ q h = go (turned σ q)
   where
-    go : Turned σ q → Told (answer σ q .reply .refusal) (answer σ q .reply .place)
+    go : Turned σ q → Told (answer σ q .reply .refusal) (answer σ q .reply .bad)
     go (taken a p e) = absurd (h a)
-    go (away r p told e n) = rw e told
+    go (away r e n) = rw e (tells r)

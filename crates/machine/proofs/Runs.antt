@@ -11,16 +11,17 @@ use borrow.Author.Tests.{leb-true}
 use Rattle.layout.specs.declared.entry.Entry.{Entry}
 use Rattle.machine.specs.Demand3.{Accepted, IsReset, issuedIn, NoReset, resetCall}
 use Rattle.machine.specs.FromReset.{ownedInAll}
-use Rattle.machine.specs.Operations.{grantReset, nameOf}
-use Rattle.machine.specs.Parts.{at, cleared, mostEntries, mostMemory, put, root, size, State}
+use Rattle.machine.specs.Operations.{carried, grantReset}
+use Rattle.machine.specs.Parts.{at, begun, cleared, mostEntries, mostMemory, put, root, size, State}
 use Rattle.machine.specs.Requests.{Call, Request, reset}
 use Rattle.machine.specs.Steps.{decide, decision, Machine, run, step}
 use Rattle.machine.specs.Stops.{checks}
+use Rattle.machine.specs.Writes.{nameOf}
 use Rattle.machine.proofs.Basics.{put-all}
-use Rattle.machine.proofs.Decided.{accepted, decided, Passed}
+use Rattle.machine.proofs.Decided.{accepted, by-decision, Passed}
 use Rattle.machine.proofs.Deeds.{deed-granted, deed-none}
 use Rattle.machine.proofs.Effects.{memory-long}
-use Rattle.machine.proofs.Fates.{core, Deed, Inv, inv-step, new-given, old-core}
+use Rattle.machine.proofs.Fates.{core, Deed, Inv, inv-step, new-given, old-core, spares}
 use Rattle.machine.proofs.Lent.{as-long}
 use Rattle.machine.proofs.Sums.{sum-first}
 use Rattle.machine.proofs.TableLaws.{at-cleared, at-same, size-cleared, size-put}
@@ -30,7 +31,7 @@ use Rattle.machine.proofs.Written.{direct-good, free-good, Good}
 
 pub deed : (m : ℕ) (s : State) (t : List ℕ) (q : Request) (b : List ℕ) → Inv m s t → (IsReset q → ⊥) → Deed m s t q (decide m s t q b)
 deed m s t q b inv nr =
-    decided (Deed m s t q) m s t q b (deed-granted m s t inv q b nr) (λ r p told. deed-none m s t inv q (omega arith) (λ n x sh nr tc ins. tc))
+    by-decision (Deed m s t q) m s t q b (deed-granted m s t inv q b nr) (λ r. deed-none m s t inv q (omega arith) (λ n x sh nr tc ins. spares x tc))
 
 -- what holds of a machine from reset on
 abbrev pub Well : Machine → Type 0
@@ -148,7 +149,7 @@ module _ (m : ℕ) (t : List ℕ) (k0 k1 ν : ℕ) (lo : 1 ≤ m) (hi : m ≤ mo
   only n k (whole a e) = (a, e)
   only n k (none z) = absurd (k z)
 
-  pub reset-inv : Inv m (grantReset m t k0 k1 ν .state) clean
+  pub reset-inv : Inv m (begun k0 k1 ν) clean
   reset-inv =
       record {
         below = λ n k. omega (arith, ap (λ (x : Entry). x .nonce) (only n k (firsts n) .1));
@@ -171,7 +172,7 @@ module _ (σ : Machine) (k0 k1 ν : ℕ) (b : List ℕ) (ok : Accepted σ (reset
   abbrev t : List ℕ
   t = σ .table
 
-  fine : Passed (checks m (σ .state) t (reset k0 k1 ν) b) × (decision σ (resetCall k0 k1 ν b) ≡ grantReset m t k0 k1 ν)
+  fine : Passed (checks m (σ .state) t (reset k0 k1 ν) b) × (decision σ (resetCall k0 k1 ν b) ≡ carried (σ .state) t (grantReset m k0 k1 ν))
   fine = accepted σ (resetCall k0 k1 ν b) ok
 
   lo : 1 ≤ m

@@ -6,24 +6,26 @@ use mathlib.Core.Bool.{true}
 use mathlib.Core.List.{List, [], _∷_, _++_, append-assoc, List·Memᴰ}
 use Prim.Native.Nat.{ℕ, suc, _+_, _≤_, _<_}
 use native.Mathlib.Omega.{arith}
-use native.Mathlib.Decide.{decLe, decLt, ℕ-discrete}
+use native.Mathlib.Decide.{decLe, decLt}
 use lib.ListN.{drop, getD, length, replicate, take}
 use lib.Seq.{ext-getD}
-use borrow.Author.Tests.{eqb-true, ltb-true}
+use borrow.Author.Tests.{eqb-true, leb-true}
 use Rattle.tokens.specs.Token.{named}
 use Rattle.layout.specs.declared.entry.Entry.{Entry}
-use Rattle.machine.specs.Demand3.{above, Accepted, Alike, Closed, Demand3, In, IsReset, issuedIn, itself, LockedFor, NoneCarries, NoReset, Owns, resetCall, Revokes, Under, Unrevoked}
+use Rattle.machine.specs.Demand3.{above, Accepted, Alike, Closed, Demand3, In, IsReset, issuedIn, itself, LockedFor, NoneCarries, NoReset, Owns, resetCall, Revokes, revokes, Under, Unrevoked}
+use Rattle.machine.specs.Issuing.{issue}
 use Rattle.machine.specs.Line.{lineOf, ownerOf, parentNumber}
-use Rattle.machine.specs.Operations.{Decision, grant, grantRevoke, Name, nameOf, numberOf, revokedOf, revokeNonce, store}
+use Rattle.machine.specs.Operations.{carried, Decision, fresh, grant, grantRevoke, numberOf, revokeNonce, store}
 use Rattle.machine.specs.Parts.{at, put, spent}
-use Rattle.machine.specs.Requests.{access, Call, clone, create, derive, executeOnly, lock, merge, release, Request, reset, revoke, taskOf, unlock}
+use Rattle.machine.specs.Requests.{access, Call, lock, Request, taskOf}
 use Rattle.machine.specs.Steps.{answer, answers, bufferAfter, decide, decision, Machine, memoryAfter, run, step}
 use Rattle.machine.specs.Stops.{checks}
+use Rattle.machine.specs.Writes.{Name, nameOf}
 use Rattle.machine.proofs.Basics.{Link, link, neqb-true, owner-direct, owner-unique, parent, range}
 use Rattle.machine.proofs.Decided.{accepted, away, Passed, taken, Turned, turned}
 use Rattle.machine.proofs.Deeds.{revoked-good}
 use Rattle.machine.proofs.Effects.{buffer-agree, memory-agree, memory-long, memory-other, zeros}
-use Rattle.machine.proofs.Fates.{core, Deed, linked-same, Shut, shut-stays, Touches}
+use Rattle.machine.proofs.Fates.{core, Deed, Fate, gone, issued, kept, linked-same, Shut, shut-stays, spares, Touches}
 use Rattle.machine.proofs.Fuel.{Live, revoke-least, walk-owns}
 use Rattle.machine.proofs.Runs.{deed-of, none-append, none-split, NotReset, run-append, run-new, run-old, run-up, run-well, step-up, step-well, Well, well-reset}
 use Rattle.machine.proofs.SliceLaws.{all-zeros}
@@ -57,7 +59,7 @@ guard σ s t q inv nr l h r = go (turned σ q)
         let d : Deed (length (σ .memory)) (σ .state) (σ .table) (q .request) (decision σ q) = deed-of σ q inv nr in
         let k = shut-stays (length (σ .memory)) (σ .state) (σ .table) (q .request) (decision σ q) inv d s sh (λ v. r v a) in
         record { same = k .0; locked = k .1 .0; holder = k .1 .1; untouched = λ x tc i. d .spared s x sh (λ v. r v a) tc i }
-    go (away r p told e na) = rw e (record { same = refl; locked = refl; holder = refl; untouched = λ x tc i. tc })
+    go (away r e na) = rw e (record { same = refl; locked = refl; holder = refl; untouched = λ x tc i. spares x tc })
 
 lock-step : (σ : Machine) (s t : ℕ) (q : Call) → LockedFor σ s t → Guard σ s (decision σ q) → LockedFor (step σ q) s t
 unfolding step
@@ -81,65 +83,36 @@ lock-run σ s t (q ∷ qs) inv nr l n u =
 
 -- ---- revocation
 
--- the request is a revoke of s, or it is not
-data Revoke (q : Request) (s : ℕ) : Type 0 where
-  is : (k c : ℕ) → q ≡ revoke k c → numberOf k ≡ s → Revoke q s
-  isnt : (Revokes q s → ⊥) → Revoke q s
-
-as-revoke : (q : Request) (s : ℕ) → Revoke q s
-as-revoke (reset k0 k1 ν) s = isnt (λ h. h)
-as-revoke (access w k u) s = isnt (λ h. h)
-as-revoke (create k u l x p c) s = isnt (λ h. h)
-as-revoke (merge j k u c) s = isnt (λ h. h)
-as-revoke (derive k o l p c) s = isnt (λ h. h)
-as-revoke (executeOnly k c) s = isnt (λ h. h)
-as-revoke (clone k) s = isnt (λ h. h)
-as-revoke (release k) s = isnt (λ h. h)
-as-revoke (lock k u) s = isnt (λ h. h)
-as-revoke (unlock k u) s = isnt (λ h. h)
-as-revoke (revoke k c) s = go (ℕ-discrete (numberOf k) s)
-  where
-    go : Dec (numberOf k ≡ s) → Revoke (revoke k c) s
-    go (yes v) = is k c refl v
-    go (no v) = isnt v
-
-no-reset : (q : Request) (s : ℕ) → Revokes q s → IsReset q → ⊥
-no-reset q s v i = go (as-revoke q s)
-  where
-    go : Revoke q s → ⊥
-    go (is k c e n) = subst IsReset e i
-    go (isnt n) = n v
+no-reset : {q : Request} {s : ℕ} → Revokes q s → IsReset q → ⊥
+no-reset (revokes e) = elim [ ]
 
 -- a revoke of s that is granted, in some encoding
 record Wipe (σ : Machine) (s : ℕ) (r : Call) : Type 0 where
   encoding : ℕ
-  done : decision σ r ≡ grantRevoke (σ .state) (σ .table) s encoding
+  done : decision σ r ≡ carried (σ .state) (σ .table) (grantRevoke (σ .table) s encoding)
   direct : at (σ .table) s .kind ≡ 1
   left : revokeNonce (σ .state) (σ .table) s < spent
 
 wipe : (σ : Machine) (s : ℕ) (r : Call) → Revokes (r .request) s → Accepted σ r → Wipe σ s r
-wipe σ s r v a = go (as-revoke (r .request) s)
+wipe σ s r v a = go (r .request) v (accepted σ r a .0) (accepted σ r a .1)
   where
     m : ℕ
     m = length (σ .memory)
 
-    go : Revoke (r .request) s → Wipe σ s r
-    go (isnt n) = absurd (n v)
-    go (is k c e n) =
-        let both = accepted σ r a in
-        let h : Passed (checks m (σ .state) (σ .table) (revoke k c) (r .buffer)) = subst (λ (q : Request). Passed (checks m (σ .state) (σ .table) q (r .buffer))) e (both .0) in
+    go : (q : Request) → Revokes q s → Passed (checks m (σ .state) (σ .table) q (r .buffer)) → decision σ r ≡ carried (σ .state) (σ .table) (grant m (σ .table) q (r .buffer)) → Wipe σ s r
+    go _ (revokes {k = k} {c = c} n) h e =
         record {
           encoding = c;
-          done = both .1 ∙ ap (λ (q : Request). grant m (σ .state) (σ .table) q (r .buffer)) e ∙ ap (λ (i : ℕ). grantRevoke (σ .state) (σ .table) i c) n;
+          done = e ∙ ap (λ (i : ℕ). carried (σ .state) (σ .table) (grantRevoke (σ .table) i c)) n;
           direct = subst (λ (i : ℕ). at (σ .table) i .kind ≡ 1) n (eqb-true (at (σ .table) (numberOf k) .kind) 1 (search));
-          left = subst (λ (i : ℕ). revokeNonce (σ .state) (σ .table) i < spent) n (ltb-true (revokeNonce (σ .state) (σ .table) (numberOf k)) spent (search));
+          left = subst (λ (i : ℕ). revokeNonce (σ .state) (σ .table) i < spent) n (omega (arith, leb-true (revokeNonce (σ .state) (σ .table) (numberOf k) + 1) spent (search)));
         }
 
 -- the new entry has a new nonce
 revoke-nonce : (σ : Machine) (s : ℕ) (r : Call) → Well σ → Wipe σ s r → σ .state .next ≤ at (step σ r .table) s .nonce
 unfolding step
 revoke-nonce σ s r inv w =
-    let e : Entry = revokedOf (σ .state) (σ .table) s in
+    let e : Entry = issue (σ .state) s (fresh (at (σ .table) s) (revokeNonce (σ .state) (σ .table) s)) in
     let up : σ .state .next ≤ revokeNonce (σ .state) (σ .table) s = revoke-least (σ .state) (σ .table) s in
     let good : Good (length (σ .memory)) e = revoked-good (length (σ .memory)) (σ .state) (σ .table) inv s (w .direct) (w .left) in
     let new : at (put (σ .table) s e) s ≡ e = at-same (σ .table) s e (good .storable) (in-table (σ .table) s (omega (arith, w .direct))) in
@@ -181,7 +154,7 @@ module _ (ρ : Machine) (inv₀ : Well ρ) (after qs : List Call) (nr : NoReset 
   none-ab = none-split a b (rw ab nr)
 
   none-r : NotReset r
-  none-r i = no-reset (r .request) s v i
+  none-r i = no-reset v i
 
   none-on : NoReset (b ++ (r ∷ zs))
   none-on = none-append b (r ∷ zs) (none-ab .1) (none-r, nz)
@@ -368,6 +341,29 @@ module _ (e : Entry) (s t : ℕ) (τ₁ τ₂ : Machine) (tw : Twin e s t τ₁ 
         all-zeros (memoryAfter (decision τ₁ q .effect) (τ₁ .memory)) (e .base) (e .length) (omega (arith, memory-long (decision τ₁ q .effect) (τ₁ .memory)))
         (λ x i j. zero-inside (τ₁ .memory) x (i, j))
 
+-- the request is an accepted revoke of s, or it spares it
+data Revoke (σ : Machine) (q : Call) (s : ℕ) : Type 0 where
+  is : Revokes (q .request) s → Accepted σ q → Revoke σ q s
+  isnt : Spares σ q s → Revoke σ q s
+
+-- the nonce of the locked entry tells: only a revoke issues it anew
+revoked-or-not : (σ : Machine) (s t : ℕ) (q : Call) → Well σ → NotReset q → LockedFor σ s t → taskOf (q .request) ≢ t → Revoke σ q s
+unfolding step
+revoked-or-not σ s t q inv nr lk h = go (turned σ q) (decLt (at (decision σ q .table) s .nonce) (σ .state .next))
+  where
+    shut : Shut (taskOf (q .request)) (at (σ .table) s)
+    shut = lock-shut σ s t q lk h
+
+    fated : (at (decision σ q .table) s .nonce < σ .state .next → ⊥) → Fate (σ .state) (σ .table) (q .request) (decision σ q .state .next) (decision σ q .issued) (deed-of σ q inv nr .moves) s (at (decision σ q .table) s) → Revokes (q .request) s
+    fated i (kept c g k) = absurd (i (omega (arith, ap (λ (x : Entry). x .nonce) c, inv .below s (omega (arith, lk .direct)))))
+    fated i (gone z k) = absurd (k shut)
+    fated i (issued a b m j f k) = k shut
+
+    go : Turned σ q → Dec (at (decision σ q .table) s .nonce < σ .state .next) → Revoke σ q s
+    go (away r e n) d = isnt (λ v a. n a)
+    go (taken a p e) (yes i) = isnt (λ v b. omega (arith, revoke-nonce σ s q inv (wipe σ s q v b)))
+    go (taken a p e) (no i) = is (fated i (deed-of σ q inv nr .fate s)) a
+
 pub alike-refl : (e : Entry) (σ : Machine) → Alike e σ σ
 alike-refl e σ = record { state = refl; table = refl; long = refl; outside = λ x i. refl }
 
@@ -397,7 +393,7 @@ record Same (e : Entry) (τ₁ τ₂ : Machine) (qs : List Call) : Type 0 where
 same-run : (e : Entry) (s t : ℕ) (τ₁ τ₂ : Machine) (qs : List Call) → Twin e s t τ₁ τ₂ → NoReset qs → NoneCarries t qs → Same e τ₁ τ₂ qs
 same-run e s t τ₁ τ₂ [] tw nr n = record { said = refl; left = tw .alike }
 same-run e s t τ₁ τ₂ (q ∷ qs) tw nr n =
-    go (λ r. same-run e s t (step τ₁ q) (step τ₂ q) qs (calm e s t τ₁ τ₂ tw q (nr .0) (n .0) r) (nr .1) (n .1)) (as-revoke (q .request) s) (turned τ₁ q)
+    go (λ r. same-run e s t (step τ₁ q) (step τ₂ q) qs (calm e s t τ₁ τ₂ tw q (nr .0) (n .0) r) (nr .1) (n .1)) (revoked-or-not τ₁ s t q (tw .inv) (nr .0) (tw .lock) (n .0))
   where
     next : answer τ₁ q ≡ answer τ₂ q → Same e (step τ₁ q) (step τ₂ q) qs → Same e τ₁ τ₂ (q ∷ qs)
     next a k = record { said = ap₂ (λ x y. x ∷ y) a (k .said); left = k .left }
@@ -405,13 +401,11 @@ same-run e s t τ₁ τ₂ (q ∷ qs) tw nr n =
     other : (Spares τ₁ q s → Same e (step τ₁ q) (step τ₂ q) qs) → Spares τ₁ q s → Same e τ₁ τ₂ (q ∷ qs)
     other f r = next (calm-answer e s t τ₁ τ₂ tw q (nr .0) (n .0) r) (f r)
 
-    go : (Spares τ₁ q s → Same e (step τ₁ q) (step τ₂ q) qs) → Revoke (q .request) s → Turned τ₁ q → Same e τ₁ τ₂ (q ∷ qs)
-    go f (isnt v) k = other f (λ w a. v w)
-    go f (is k c i n) (taken a p d) =
-        let v : Revokes (q .request) s = rw i n in
+    go : (Spares τ₁ q s → Same e (step τ₁ q) (step τ₂ q) qs) → Revoke τ₁ q s → Same e τ₁ τ₂ (q ∷ qs)
+    go f (isnt r) = other f r
+    go f (is v a) =
         next (wipe-answer e s t τ₁ τ₂ tw q v a)
         (subst (λ (σ : Machine). Same e (step τ₁ q) σ qs) (wipe-equal e s t τ₁ τ₂ tw q v a) (record { said = refl; left = alike-refl e (run (step τ₁ q) qs) }))
-    go f (is k c x n) (away i j told d na) = other f (λ w a. na a)
 
 -- what is accepted in one copy is accepted in the other
 accepted-same : (e : Entry) (τ₁ τ₂ : Machine) (q : Call) → Alike e τ₁ τ₂ → Accepted τ₁ q → Accepted τ₂ q

@@ -10,7 +10,7 @@ use native.Mathlib.Omega.{arith}
 use lib.Dec.{eqb}
 use lib.Pow.{pow-pos}
 use borrow.Author.Tests.{le-ltb, ne-eqb}
-use Rattle.layout.specs.Entry.{bit, direct, directFields, directWidths, free, indirect, isDirect, isFree, isIndirect, Storable}
+use Rattle.layout.specs.Entry.{bit, direct, directFields, directWidths, free, indirect, isDirect, isFree, isIndirect, recounted, relocked, Storable}
 use Rattle.bits.specs.Fields.{Fit}
 use Rattle.layout.specs.Form.{endPastMemory, faultsOf, holderWithoutLock, illFormed, lengthZero, lockedWithoutHolder, orSome}
 use Rattle.layout.specs.Tag.{tagOf}
@@ -21,7 +21,7 @@ use Rattle.bits.proofs.FieldLaws.{pack-lt}
 use Rattle.layout.proofs.FormLaws.{ill-as}
 use Rattle.tokens.proofs.TokenLaws.{encoding-of, named-of}
 use Rattle.machine.specs.Issuing.{issue}
-use Rattle.machine.specs.Operations.{recount, relock, tokenOf}
+use Rattle.machine.specs.Operations.{tokenOf}
 use Rattle.machine.specs.Parts.{mostMemory, spent, State}
 use Rattle.machine.proofs.Basics.{some-false}
 
@@ -103,32 +103,32 @@ issue-indirect m s k n {e} {b} {l} {p} {ν} h1 good h2 h3 h4 h5 h6 =
       formed = rw (ne-eqb l 0 (omega arith), le-ltb m (b + l) h4, encoding-of 1 (names n e) (omega arith) fit);
     }
 
-pub recount-good : (m : ℕ) {e : Entry} {k : ℕ} → Good m e → e .kind ≢ 0 → k < 65536 → Good m (recount e k)
+pub recount-good : (m : ℕ) {e : Entry} {k : ℕ} → Good m e → e .kind ≢ 0 → k < 65536 → Good m (recounted e k)
 unfolding illFormed
 recount-good m {e} {k} g n h = record { storable = go (g .storable); formed = same (e .kind) ∙ g .formed }
   where
-    go : Storable e → Storable (recount e k)
+    go : Storable e → Storable (recounted e k)
     go (isFree i) = absurd (n (ap (λ (x : Entry). x .kind) i))
     go (isDirect i p z f) = isDirect i p z (omega arith)
     go (isIndirect i q u f) = isIndirect i q u (omega arith)
 
-    same : (x : ℕ) → orSome false (faultsOf x m (recount e k)) ≡ orSome false (faultsOf x m e)
+    same : (x : ℕ) → orSome false (faultsOf x m (recounted e k)) ≡ orSome false (faultsOf x m e)
     same zero = refl
     same (suc zero) = refl
     same (suc (suc zero)) = refl
     same (suc (suc (suc x))) = refl
 
 -- the holder is zero just if the entry is not locked
-pub relock-good : (m : ℕ) {e : Entry} {locked : Bool} {h : ℕ} → Good m e → e .kind ≡ 1 → h < 2 ^ 55 → (locked && eqb h 0) ≡ false → (not locked && not (eqb h 0)) ≡ false → Good m (relock e locked h)
+pub relock-good : (m : ℕ) {e : Entry} {locked : Bool} {h : ℕ} → Good m e → e .kind ≡ 1 → h < 2 ^ 55 → (locked && eqb h 0) ≡ false → (not locked && not (eqb h 0)) ≡ false → Good m (relocked e locked h)
 relock-good m {e} {locked} {h} g k l a b =
-    record { storable = go (g .storable); formed = ill-as m (relock e locked h) k ∙ formed (sym (ill-as m e k) ∙ g .formed) }
+    record { storable = go (g .storable); formed = ill-as m (relocked e locked h) k ∙ formed (sym (ill-as m e k) ∙ g .formed) }
   where
-    go : Storable e → Storable (relock e locked h)
+    go : Storable e → Storable (relocked e locked h)
     go (isFree i) = absurd (omega (arith, ap (λ (x : Entry). x .kind) i))
     go (isDirect i p z f) = isDirect i p z (omega (arith, bit-small locked))
     go (isIndirect i q u f) = absurd (omega arith)
 
-    formed : orSome false (faultsOf 1 m e) ≡ false → orSome false (faultsOf 1 m (relock e locked h)) ≡ false
+    formed : orSome false (faultsOf 1 m e) ≡ false → orSome false (faultsOf 1 m (relocked e locked h)) ≡ false
     formed f =
         let up : (lengthZero e || endPastMemory m e || e .cow) ≡ false = some-false (lengthZero e || endPastMemory m e || e .cow) (lockedWithoutHolder e ∷ holderWithoutLock e ∷ []) f in
         rw (up, a, b)

@@ -9,10 +9,11 @@ use lib.ListN.{drop, getD, length, replicate, take}
 use Rattle.tokens.specs.Token.{named}
 use Rattle.layout.specs.declared.entry.Entry.{Entry}
 use Rattle.machine.specs.Line.{linked, parentNumber}
-use Rattle.machine.specs.Operations.{Name, numberOf}
+use Rattle.machine.specs.Operations.{numberOf}
 use Rattle.machine.specs.Parts.{at}
-use Rattle.machine.specs.Requests.{access, Call, clone, create, derive, executeOnly, lock, merge, release, Request, reset, revoke, taskOf, unlock, Way}
+use Rattle.machine.specs.Requests.{access, Call, Request, reset, revoke, taskOf, Way}
 use Rattle.machine.specs.Steps.{answer, answers, decision, Machine, run, step}
+use Rattle.machine.specs.Writes.{Name}
 
 -- ---- segments, locks, copies
 
@@ -36,18 +37,8 @@ pub record Alike (e : Entry) (σ τ : Machine) : Type 0 where
 -- ---- lists of requests
 
 -- "none a reset"
-abbrev pub IsReset : Request → Type 0
-IsReset (reset k0 k1 ν) = Unit {0}
-IsReset (access w k u) = ⊥
-IsReset (create k u l x p c) = ⊥
-IsReset (merge j k u c) = ⊥
-IsReset (derive k o l p c) = ⊥
-IsReset (executeOnly k c) = ⊥
-IsReset (clone k) = ⊥
-IsReset (release k) = ⊥
-IsReset (lock k u) = ⊥
-IsReset (unlock k u) = ⊥
-IsReset (revoke k c) = ⊥
+pub data IsReset : Request → Type 0 where
+  resets : {k0 k1 ν : ℕ} → IsReset (reset k0 k1 ν)
 
 abbrev pub NoReset : List Call → Type 0
 NoReset [] = Unit {0}
@@ -63,18 +54,8 @@ abbrev pub Accepted : Machine → Call → Type 0
 Accepted σ q = answer σ q .reply .refusal ≡ 0
 
 -- "a revoke naming the entry is a revoke of it"
-abbrev pub Revokes : Request → ℕ → Type 0
-Revokes (reset k0 k1 ν) s = ⊥
-Revokes (access w k u) s = ⊥
-Revokes (create k u l x p c) s = ⊥
-Revokes (merge j k u c) s = ⊥
-Revokes (derive k o l p c) s = ⊥
-Revokes (executeOnly k c) s = ⊥
-Revokes (clone k) s = ⊥
-Revokes (release k) s = ⊥
-Revokes (lock k u) s = ⊥
-Revokes (unlock k u) s = ⊥
-Revokes (revoke k c) s = numberOf k ≡ s
+pub data Revokes : Request → ℕ → Type 0 where
+  revokes : {k c s : ℕ} → numberOf k ≡ s → Revokes (revoke k c) s
 
 -- none of the requests is an accepted revoke of entry s
 abbrev pub Unrevoked : Machine → List Call → ℕ → Type 0

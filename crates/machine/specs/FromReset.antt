@@ -3,7 +3,7 @@
 use mathlib.Core.Path.{_≡_}
 use mathlib.Core.Logic.{_≢_}
 use mathlib.Core.Bool.{cond, false}
-use mathlib.Core.List.{List, _∷_}
+use mathlib.Core.List.{List, _∷_, _++_}
 use Prim.Native.Nat.{ℕ, zero, suc, _+_, _≤_, _<_}
 use lib.Dec.{eqb}
 use lib.ListN.{length}
@@ -15,7 +15,7 @@ use Rattle.machine.specs.Line.{parentNumber}
 use Rattle.machine.specs.Parts.{at, size}
 use Rattle.machine.specs.Requests.{Call}
 use Rattle.machine.specs.Steps.{Machine, pass, run, verdict}
-use Rattle.machine.specs.Stops.{settings}
+use Rattle.machine.specs.Stops.{atRequest, needAll, settings, sizes}
 
 -- how many bytes an entry owns: a direct one its length, any other none
 abbrev pub owned : Entry → ℕ
@@ -47,7 +47,7 @@ pub record Inside (e p : Entry) : Type 0 where
 -- the machine is in order
 pub record Sound (σ : Machine) : Type 0 where
   -- place 1, as far as it is the same for all requests but reset, refuses none: sizes and settings hold
-  pub settled : verdict (settings (length (σ .memory)) (σ .state) (σ .table)) ≡ pass
+  pub settled : verdict (needAll atRequest (sizes (length (σ .memory)) (σ .table) ++ settings (σ .state) (σ .table))) ≡ pass
   -- "From reset on, the lengths of all direct entries add up to the memory's length,"
   pub sum : ownedInAll (σ .table) ≡ length (σ .memory)
   -- "and no byte has two owners." Each has one.

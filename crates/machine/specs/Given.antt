@@ -2,41 +2,28 @@
 -- answer carries it for an entry issued in that request; a zero in an unused place gives none."
 -- Assumes nothing.
 use mathlib.Core.Path.{_≡_}
-use mathlib.Core.Bool.{cond}
 use mathlib.Core.List.{List, [], _∷_}
-use Prim.Native.Nat.{ℕ, _≤_}
-use lib.Dec.{eqb}
-use lib.ListN.{take}
+use Prim.Native.Nat.{ℕ}
 use Rattle.tokens.specs.Token.{named}
-use Rattle.machine.specs.Demand3.{Accepted}
-use Rattle.machine.specs.Operations.{Name, namedEntry, numberOf}
-use Rattle.machine.specs.Requests.{access, Call, clone, create, derive, executeOnly, lock, merge, release, Request, reset, revoke, unlock}
+use Rattle.machine.specs.Demand3.{Accepted, IsReset}
+use Rattle.machine.specs.Operations.{Decision, numberOf}
+use Rattle.machine.specs.Requests.{Call, Request}
 use Rattle.machine.specs.Steps.{decision, Machine}
+use Rattle.machine.specs.Writes.{Name}
 
 -- the number and tag of a token
 abbrev pub nameIn : ℕ → Name
 nameIn k = record { number = numberOf k; tag = named k .tag }
 
--- how many of the answer's two places a granted request uses. No answer carries the root's token, which reset gives: it is the zero in the first place.
-abbrev pub places : List ℕ → Request → ℕ
-places t (reset k0 k1 ν) = 1
-places t (access w k u) = 0
-places t (create k u l x p c) = cond (eqb l (namedEntry t k .length)) 1 2
-places t (merge j k u c) = 1
-places t (derive k o l p c) = 1
-places t (executeOnly k c) = 1
-places t (clone k) = 0
-places t (release k) = 0
-places t (lock k u) = 0
-places t (unlock k u) = 0
-places t (revoke k c) = 1
+abbrev pub namesIn : List ℕ → List Name
+namesIn [] = []
+namesIn (k ∷ ks) = nameIn k ∷ namesIn ks
 
--- what was issued is what the tokens a and b of the used places name, and an unused place holds zero
-pub record Gives (used : ℕ) (issued : List Name) (a b : ℕ) : Type 0 where
-  pub names : issued ≡ take used (nameIn a ∷ nameIn b ∷ [])
-  pub first : used ≤ 0 → a ≡ 0
-  pub second : used ≤ 1 → b ≡ 0
+-- What a granted request issued is what the tokens of its answer name. Reset's root is issued, and its answer carries no token.
+pub record Gives (q : Request) (d : Decision) : Type 0 where
+  pub carried : (IsReset q → ⊥) → d .issued ≡ namesIn (d .reply .tokens)
+  pub root : IsReset q → (d .issued ≡ record { number = 0; tag = 0 } ∷ []) × (d .reply .tokens ≡ [])
 
 -- whatever is granted by whatever machine; a refused request gives none (`Refusals.Untouched`)
 unfoldable pub Given : Type 0
-Given = (σ : Machine) (q : Call) → Accepted σ q → Gives (places (σ .table) (q .request)) (decision σ q .issued) (decision σ q .reply .first) (decision σ q .reply .second)
+Given = (σ : Machine) (q : Call) → Accepted σ q → Gives (q .request) (decision σ q)

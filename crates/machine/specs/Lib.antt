@@ -12,3 +12,4 @@ pub mod Searches
 pub mod Session
 pub mod Steps
 pub mod Stops
+pub mod Writes

@@ -59,14 +59,20 @@ ownerOf (owner k) = k
 ownerOf (dead k) = 0
 ownerOf (ill k) = 0
 
--- "whether the named entry or an ancestor was the bad one (for a missing link, the entry that holds the link)": 1 or 2
-abbrev pub whose : ℕ → ℕ → ℕ
-whose n k = cond (eqb k n) 1 2
+-- the entry at which it ends: the owner, the entry that holds the missing link, or the ill-formed one
+abbrev pub endOf : Line → ℕ
+endOf (owner k) = k
+endOf (dead k) = k
+endOf (ill k) = k
 
-abbrev pub badPlace : ℕ → Line → ℕ
-badPlace n (owner k) = 0
-badPlace n (dead k) = whose n k
-badPlace n (ill k) = whose n k
+-- "whether the named entry or an ancestor was the bad one (for a missing link, the entry that holds the link)"
+pub data Bad : Type 0 where
+  itself : Bad
+  ancestor : Bad
+
+-- in the line l of the entry of number n, which was named
+abbrev pub badOf : (number : ℕ) → Line → Bad
+badOf n l = cond (eqb (endOf l) n) itself ancestor
 
 -- "The owner's lock is the lock of all below." A dead line counts as unlocked.
 abbrev pub isLocked : List ℕ → Line → Bool

@@ -1,5 +1,5 @@
--- What a granted request does (01, "Operations"). A decision sees the memory's length and no byte of memory; its effect is carried out on memory
--- and buffer afterwards.
+-- What a granted request does (01, "Operations"): the writes into state and table, and an effect on memory and buffer. A decision sees the memory's length
+-- and no byte of memory; its effect is carried out afterwards.
 -- Assumes nothing.
 use mathlib.Core.Bool.{Bool, true, false, not, _&&_, cond}
 use mathlib.Core.List.{List, [], _∷_}
@@ -7,38 +7,54 @@ use Prim.Native.Nat.{ℕ, zero, suc, _+_, _-_}
 use lib.Bits.{bitAnd}
 use lib.Dec.{eqb, leb}
 use lib.ListN.{length, replicate}
-use Rattle.layout.specs.Entry.{direct, free, indirect}
+use Rattle.layout.specs.Entry.{direct, indirect, recounted, relocked}
 use Rattle.tokens.specs.Permissions.{X}
-use Rattle.tokens.specs.Token.{named, token}
+use Rattle.tokens.specs.Token.{named}
 use Rattle.layout.specs.declared.entry.Entry.{Entry}
-use Rattle.machine.specs.Issuing.{issue, newNumber, passOver}
 use Rattle.machine.specs.Line.{isLocked, lineOf, linked, ownerOf, parentNumber}
-use Rattle.machine.specs.Parts.{at, cleared, moved, put, root, spent, State}
+use Rattle.machine.specs.Parts.{at, State}
 use Rattle.machine.specs.Requests.{access, clone, create, derive, executeOnly, fetching, lock, merge, reading, release, Request, reset, revoke, unlock, Way, writing}
+use Rattle.machine.specs.Writes.{alter, begin, Book, give, Name, nameOf, opened, otherNonce, reissue, renew, tokenFor, vacate, vacated, Write, written}
 
 -- ---- what a request hands back
 
--- Beside the state and the buffer: the refusal's number (0 granted), its place for 3 and 4 (1 the named entry, 2 an ancestor, else 0), two
--- tokens and drop's number.
+-- Beside the state and the buffer: the refusal's number (0 granted), for 3 and 4 which entry was bad (1 the named one, 2 an ancestor, else 0), the tokens
+-- and drop's number. The word 0 is a real token, the root's in encoding 0: the list's length tells it from none.
 pub record Reply : Type 0 where
   pub refusal : ℕ
-  pub place : ℕ
-  pub first : ℕ
-  pub second : ℕ
+  pub bad : ℕ
+  pub tokens : List ℕ
   pub dropped : ℕ
 
--- "'the same token' means these two": its number and tag
-pub record Name : Type 0 where
-  pub number : ℕ
-  pub tag : ℕ
+abbrev pub granted : (tokens : List ℕ) (dropped : ℕ) → Reply
+granted ks d = record { refusal = 0; bad = 0; tokens = ks; dropped = d }
 
--- what is done to memory and buffer: nothing, a range of memory goes to the buffer, or bytes are stored in memory
-pub data Effect : Type 0 where
-  nothing : Effect
-  load : (start length : ℕ) → Effect
-  store : (start : ℕ) (bytes : List ℕ) → Effect
+-- bytes that are stored in memory, from start on
+pub record Store : Type 0 where
+  pub start : ℕ
+  pub bytes : List ℕ
 
--- `issued` has the tokens of the entries that were issued in the request and that its answer carries
+-- what the buffer comes back with: its own bytes, or a range of memory
+pub data Fill : Type 0 where
+  unfilled : Fill
+  fillFrom : (start length : ℕ) → Fill
+
+-- what is done to memory and buffer: the stores, one after the other, and the fill, from memory as it was before them
+pub record Effect : Type 0 where
+  pub stores : List Store
+  pub fill : Fill
+
+-- nothing; a range of memory goes to the buffer; bytes are stored in memory
+abbrev pub nothing : Effect
+nothing = record { stores = []; fill = unfilled }
+
+abbrev pub load : (start length : ℕ) → Effect
+load a n = record { stores = []; fill = fillFrom a n }
+
+abbrev pub store : (start : ℕ) (bytes : List ℕ) → Effect
+store a bs = record { stores = record { start = a; bytes = bs } ∷ []; fill = unfilled }
+
+-- `issued` has the tokens of the entries that were issued in the request
 pub record Decision : Type 0 where
   pub state : State
   pub table : List ℕ
@@ -46,12 +62,31 @@ pub record Decision : Type 0 where
   pub issued : List Name
   pub effect : Effect
 
-abbrev pub granted : (first second dropped : ℕ) → Reply
-granted a b d = record { refusal = 0; place = 0; first = a; second = b; dropped = d }
+-- ---- what a granted request does
 
--- a granted request that issues nothing and leaves the state
-abbrev pub plainly : State → List ℕ → (dropped : ℕ) → Effect → Decision
-plainly s t d f = record { state = s; table = t; reply = granted 0 0 d; issued = []; effect = f }
+-- its writes, the encoding of the tokens in its answer, drop's number, and the effect
+pub record Grant : Type 0 where
+  pub writes : List Write
+  pub encoding : ℕ
+  pub dropped : ℕ
+  pub effect : Effect
+
+-- the writes of a grant, one after the other
+abbrev pub book : State → List ℕ → Grant → Book
+book s t g = written (g .encoding) (opened s t) (g .writes)
+
+-- the grant is carried out
+abbrev pub carried : State → List ℕ → Grant → Decision
+carried s t g =
+    let b = book s t g in
+    record { state = b .state; table = b .table; reply = granted (b .tokens) (g .dropped); issued = b .issued; effect = g .effect }
+
+-- writes alone, with tokens in encoding c; and writes that issue none
+abbrev pub issuing : (encoding : ℕ) → List Write → Grant
+issuing c ws = record { writes = ws; encoding = c; dropped = 0; effect = nothing }
+
+abbrev pub altering : List Write → Grant
+altering ws = issuing 0 ws
 
 -- the number that a token names
 abbrev pub numberOf : ℕ → ℕ
@@ -61,57 +96,15 @@ numberOf k = named k .number
 abbrev pub namedEntry : List ℕ → ℕ → Entry
 namedEntry t k = at t (numberOf k)
 
-abbrev pub nameOf : ℕ → Entry → Name
-nameOf n e = record { number = n; tag = e .tag }
-
 -- the token of the entry e under number n in an encoding, offset zero
 abbrev pub tokenOf : (encoding : ℕ) → ℕ → Entry → ℕ
-tokenOf c n e = token c (record { tag = e .tag; number = n; offset = 0 })
-
--- the entry with another count; with another lock. "Later changes of count or lock leave the tag."
-abbrev pub recount : Entry → ℕ → Entry
-recount e k = record {
-  kind = e .kind;
-  base = e .base;
-  length = e .length;
-  count = k;
-  holder = e .holder;
-  user = e .user;
-  parent = e .parent;
-  zeros = e .zeros;
-  permissions = e .permissions;
-  locked = e .locked;
-  lockable = e .lockable;
-  cow = e .cow;
-  tag = e .tag;
-  nonce = e .nonce;
-}
-
-abbrev pub relock : Entry → Bool → (holder : ℕ) → Entry
-relock e locked h = record {
-  kind = e .kind;
-  base = e .base;
-  length = e .length;
-  count = e .count;
-  holder = h;
-  user = e .user;
-  parent = e .parent;
-  zeros = e .zeros;
-  permissions = e .permissions;
-  locked = locked;
-  lockable = e .lockable;
-  cow = e .cow;
-  tag = e .tag;
-  nonce = e .nonce;
-}
+tokenOf c n e = tokenFor c (nameOf n e)
 
 -- ---- the operations
 
--- reset: the root over all of memory, of m bytes, and zeros for all other entries. "Memory keeps its bytes." The root's token is given, though no
--- answer carries it.
-abbrev pub grantReset : ℕ → List ℕ → (key0 key1 firstNonce : ℕ) → Decision
-grantReset m t k0 k1 ν =
-    record { state = record { key0 = k0; key1 = k1; last = 0; next = ν }; table = put (cleared t) 0 (root m); reply = granted 0 0 0; issued = record { number = 0; tag = 0 } ∷ []; effect = nothing }
+-- reset: the root over all of memory, of m bytes. "Memory keeps its bytes."
+abbrev pub grantReset : ℕ → (key0 key1 firstNonce : ℕ) → Grant
+grantReset m k0 k1 ν = issuing 0 (begin m k0 k1 ν ∷ [])
 
 -- access: the bytes at the token's offset in the segment; the buffer's length is the transfer's
 abbrev pub transfer : Way → (start : ℕ) → (buffer : List ℕ) → Effect
@@ -119,100 +112,83 @@ transfer reading a b = load a (length b)
 transfer writing a b = store a b
 transfer fetching a b = load a (length b)
 
-abbrev pub grantAccess : State → List ℕ → Way → (token : ℕ) → List ℕ → Decision
-grantAccess s t w k b = plainly s t 0 (transfer w (namedEntry t k .base + named k .offset) b)
+abbrev pub grantAccess : List ℕ → Way → (token : ℕ) → List ℕ → Grant
+grantAccess t w k b = record { writes = []; encoding = 0; dropped = 0; effect = transfer w (namedEntry t k .base + named k .offset) b }
 
 -- create: a front part of the wanted length under a new number, issued first: the request's user and permissions, Lockable as before
-abbrev pub partOf : State → List ℕ → Entry → (length user permissions : ℕ) → Entry
-partOf s t e l u p = issue s (newNumber s t) (direct (e .base) l u p (e .lockable) 0 (s .next))
+abbrev pub partOf : Entry → (length user permissions : ℕ) → ℕ → Entry
+partOf e l u p ν = direct (e .base) l u p (e .lockable) 0 ν
 
 -- "The rest keeps its number, is issued anew with base and length moved; at length 0 it is freed instead. The new number is sought before that."
-abbrev pub restOf : State → ℕ → Entry → (length : ℕ) → Entry
-restOf s n e l = issue s n (direct (e .base + l) (e .length - l) (e .user) (e .permissions) (e .lockable) 0 (s .next + 1))
+abbrev pub restOf : Entry → (length : ℕ) → ℕ → Entry
+restOf e l ν = direct (e .base + l) (e .length - l) (e .user) (e .permissions) (e .lockable) 0 ν
 
-abbrev pub grantCreate : State → List ℕ → ℕ → (length user permissions encoding : ℕ) → Decision
-grantCreate s t n l u p c =
-    let new = newNumber s t in
-    let part = partOf s t (at t n) l u p in
-    let rest = restOf s n (at t n) l in
-    cond (eqb l (at t n .length))
-    (record { state = moved s new (s .next + 1); table = put (put t new part) n free; reply = granted (tokenOf c new part) 0 0; issued = nameOf new part ∷ []; effect = nothing })
-    (record { state = moved s new (s .next + 2); table = put (put t new part) n rest; reply = granted (tokenOf c new part) (tokenOf c n rest) 0; issued = nameOf new part ∷ nameOf n rest ∷ []; effect = nothing })
+abbrev pub grantCreate : List ℕ → ℕ → (length user permissions encoding : ℕ) → Grant
+grantCreate t n l u p c = issuing c (give (partOf (at t n) l u p) ∷ cond (eqb l (at t n .length)) (vacate n) (reissue n (restOf (at t n) l)) ∷ [])
 
 -- merge: "the first is issued anew over both with the permissions both have, its own user and Lockable; the second is freed"
-abbrev pub mergedOf : State → ℕ → Entry → Entry → Entry
-mergedOf s n d e = issue s n (direct (d .base) (d .length + e .length) (d .user) (bitAnd (d .permissions) (e .permissions)) (d .lockable) 0 (s .next))
+abbrev pub mergedOf : Entry → Entry → ℕ → Entry
+mergedOf d e ν = direct (d .base) (d .length + e .length) (d .user) (bitAnd (d .permissions) (e .permissions)) (d .lockable) 0 ν
 
-abbrev pub grantMerge : State → List ℕ → ℕ → ℕ → (encoding : ℕ) → Decision
-grantMerge s t n k c =
-    let merged = mergedOf s n (at t n) (at t k) in
-    record { state = moved s (s .last) (s .next + 1); table = put (put t k free) n merged; reply = granted (tokenOf c n merged) 0 0; issued = nameOf n merged ∷ []; effect = nothing }
+abbrev pub grantMerge : List ℕ → ℕ → ℕ → (encoding : ℕ) → Grant
+grantMerge t n k c = issuing c (vacate k ∷ reissue n (mergedOf (at t n) (at t k)) ∷ [])
 
 -- derive: an indirect entry at the offset, with a parent token in encoding 1 and count 1; "the parent's count rises by one"
-abbrev pub childOf : State → List ℕ → ℕ → (offset length permissions : ℕ) → Entry
-childOf s t n o l p =
-    issue s (newNumber s t) (indirect (at t n .base + o) l (tokenOf 1 n (at t n)) p 0 (s .next))
+abbrev pub childOf : ℕ → Entry → (offset length permissions : ℕ) → ℕ → Entry
+childOf n e o l p ν = indirect (e .base + o) l (tokenOf 1 n e) p 0 ν
 
-abbrev pub grantDerive : State → List ℕ → ℕ → (offset length permissions encoding : ℕ) → Decision
-grantDerive s t n o l p c =
-    let new = newNumber s t in
-    let child = childOf s t n o l p in
-    record { state = moved s new (s .next + 1); table = put (put t new child) n (recount (at t n) (at t n .count + 1)); reply = granted (tokenOf c new child) 0 0; issued = nameOf new child ∷ []; effect = nothing }
+abbrev pub grantDerive : List ℕ → ℕ → (offset length permissions encoding : ℕ) → Grant
+grantDerive t n o l p c = issuing c (give (childOf n (at t n) o l p) ∷ alter n (recounted (at t n) (at t n .count + 1)) ∷ [])
 
 -- clone "adds one to the count"
-abbrev pub grantClone : State → List ℕ → ℕ → Decision
-grantClone s t n = plainly s (put t n (recount (at t n) (at t n .count + 1))) 0 nothing
+abbrev pub grantClone : List ℕ → ℕ → Grant
+grantClone t n = altering (alter n (recounted (at t n) (at t n .count + 1)) ∷ [])
 
 -- drop, where no lock holds it back: "a count of 2 or more falls by one"; at 1 "it falls to 0; a direct entry stays, while an indirect one is freed and
 -- the drop climbs to its parent if that link holds. A climb that meets count 0 ends there." The nonce falls at each link.
-unfoldable pub climb : ℕ → List ℕ → ℕ → List ℕ
-climb zero t n = t
+unfoldable pub climb : ℕ → List ℕ → ℕ → List Write
+climb zero t n = []
 climb (suc steps) t n =
-    let up = climb steps (put t n free) (parentNumber (at t n)) in
-    let freed = cond (linked t (at t n)) up (put t n free) in
-    let last = cond (eqb (at t n .kind) 1) (put t n (recount (at t n) 0)) freed in
-    let least = cond (eqb (at t n .count) 0) t last in
-    cond (leb 2 (at t n .count)) (put t n (recount (at t n) (at t n .count - 1))) least
+    let up = climb steps (vacated t n) (parentNumber (at t n)) in
+    let freed = vacate n ∷ cond (linked t (at t n)) up [] in
+    let last = cond (eqb (at t n .kind) 1) (alter n (recounted (at t n) 0) ∷ []) freed in
+    let least = cond (eqb (at t n .count) 0) [] last in
+    cond (leb 2 (at t n .count)) (alter n (recounted (at t n) (at t n .count - 1)) ∷ []) least
 
 -- "At 1 under a locked owner nothing changes, answer 0. At 1 otherwise [..] answer 1. The answer is the named entry's. A dead line counts as
 -- unlocked."
-abbrev pub grantRelease : ℕ → State → List ℕ → ℕ → Decision
-grantRelease m s t n =
+abbrev pub grantRelease : ℕ → List ℕ → ℕ → Grant
+grantRelease m t n =
     let one = eqb (at t n .count) 1 in
     let locked = isLocked t (lineOf m t n) in
-    plainly s (cond (one && locked) t (climb (suc (at t n .nonce)) t n)) (cond (one && not locked) 1 0) nothing
+    record { writes = cond (one && locked) [] (climb (suc (at t n .nonce)) t n); encoding = 0; dropped = cond (one && not locked) 1 0; effect = nothing }
 
 -- lock, "through any token of the line, sets Locked and holder at the owner"; "by the holder again it [..] succeeds and changes nothing"; unlock
 -- clears both
-abbrev pub grantLock : State → List ℕ → ℕ → Bool → (holder : ℕ) → Decision
-grantLock s t owner locked h = plainly s (put t owner (relock (at t owner) locked h)) 0 nothing
+abbrev pub grantLock : List ℕ → ℕ → Bool → (holder : ℕ) → Grant
+grantLock t owner locked h = altering (alter owner (relocked (at t owner) locked h) ∷ [])
 
 -- revoke "zeros the segment and issues the same number over it: count 0, R W X, Lockable, unlocked, user 0"
 abbrev pub fresh : Entry → ℕ → Entry
 fresh e ν = direct (e .base) (e .length) 0 7 true 0 ν
 
 abbrev pub revokeNonce : State → List ℕ → ℕ → ℕ
-revokeNonce s t n = passOver (spent - s .next) s n (fresh (at t n)) (at t n .tag) (s .next)
+revokeNonce s t n = otherNonce s t n (fresh (at t n))
 
-abbrev pub revokedOf : State → List ℕ → ℕ → Entry
-revokedOf s t n = issue s n (fresh (at t n) (revokeNonce s t n))
-
-abbrev pub grantRevoke : State → List ℕ → ℕ → (encoding : ℕ) → Decision
-grantRevoke s t n c =
-    let new = revokedOf s t n in
-    record { state = moved s (s .last) (revokeNonce s t n + 1); table = put t n new; reply = granted (tokenOf c n new) 0 0; issued = nameOf n new ∷ []; effect = store (at t n .base) (replicate (at t n .length) 0) }
+abbrev pub grantRevoke : List ℕ → ℕ → (encoding : ℕ) → Grant
+grantRevoke t n c = record { writes = renew n (fresh (at t n)) ∷ []; encoding = c; dropped = 0; effect = store (at t n .base) (replicate (at t n .length) 0) }
 
 -- what a granted request does, where the memory has m bytes and the request brings the buffer b. "Execute-only: the same [as derive], without the
 -- sum, over the whole segment with X alone."
-abbrev pub grant : ℕ → State → List ℕ → Request → List ℕ → Decision
-grant m s t (reset k0 k1 ν) b = grantReset m t k0 k1 ν
-grant m s t (access w k u) b = grantAccess s t w k b
-grant m s t (create k u l x p c) b = grantCreate s t (numberOf k) l x p c
-grant m s t (merge j k u c) b = grantMerge s t (numberOf j) (numberOf k) c
-grant m s t (derive k o l p c) b = grantDerive s t (numberOf k) o l p c
-grant m s t (executeOnly k c) b = grantDerive s t (numberOf k) 0 (namedEntry t k .length) X c
-grant m s t (clone k) b = grantClone s t (numberOf k)
-grant m s t (release k) b = grantRelease m s t (numberOf k)
-grant m s t (lock k u) b = grantLock s t (ownerOf (lineOf m t (numberOf k))) true u
-grant m s t (unlock k u) b = grantLock s t (ownerOf (lineOf m t (numberOf k))) false 0
-grant m s t (revoke k c) b = grantRevoke s t (numberOf k) c
+abbrev pub grant : ℕ → List ℕ → Request → List ℕ → Grant
+grant m t (reset k0 k1 ν) b = grantReset m k0 k1 ν
+grant m t (access w k u) b = grantAccess t w k b
+grant m t (create k u l x p c) b = grantCreate t (numberOf k) l x p c
+grant m t (merge j k u c) b = grantMerge t (numberOf j) (numberOf k) c
+grant m t (derive k o l p c) b = grantDerive t (numberOf k) o l p c
+grant m t (executeOnly k c) b = grantDerive t (numberOf k) 0 (namedEntry t k .length) X c
+grant m t (clone k) b = grantClone t (numberOf k)
+grant m t (release k) b = grantRelease m t (numberOf k)
+grant m t (lock k u) b = grantLock t (ownerOf (lineOf m t (numberOf k))) true u
+grant m t (unlock k u) b = grantLock t (ownerOf (lineOf m t (numberOf k))) false 0
+grant m t (revoke k c) b = grantRevoke t (numberOf k) c

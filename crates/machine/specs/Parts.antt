@@ -47,8 +47,12 @@ spent = 4294967296
 abbrev pub moved : State → (last next : ℕ) → State
 moved s l ν = record { key0 = s .key0; key1 = s .key1; last = l; next = ν }
 
+-- the state as reset leaves it: "the last number 0, the next nonce that first one"
+abbrev pub begun : (key0 key1 firstNonce : ℕ) → State
+begun k0 k1 ν = record { key0 = k0; key1 = k1; last = 0; next = ν }
+
 -- "Reset [..] writes entry 0, the root: direct, base 0, all of memory, count 0, permissions R, W and X, Lockable, tag 0, nonce 0. All other
--- entries become zeros, the last number 0, the next nonce that first one."
+-- entries become zeros."
 abbrev pub root : ℕ → Entry
 root memory = direct 0 memory 0 7 true 0 0
 

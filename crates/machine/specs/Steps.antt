@@ -5,42 +5,50 @@ use mathlib.Core.List.{List, [], _∷_}
 use Prim.Native.Nat.{ℕ}
 use lib.ListN.{drop, length, take}
 use lib.Seq.{sets}
-use Rattle.machine.specs.Operations.{Decision, Effect, grant, load, nothing, Reply, store}
+use Rattle.machine.specs.Operations.{carried, Decision, Effect, Fill, fillFrom, Grant, grant, nothing, Reply, Store, unfilled}
 use Rattle.machine.specs.Parts.{State}
 use Rattle.machine.specs.Requests.{Call, Request}
-use Rattle.machine.specs.Stops.{Check, checks}
+use Rattle.machine.specs.Stops.{Check, checks, Refusal, refusalBad, refusalNumber}
 
 -- the first check that does not hold gives its refusal
 pub data Verdict : Type 0 where
   pass : Verdict
-  stop : (refusal place : ℕ) → Verdict
+  stop : Refusal → Verdict
 
 abbrev pub verdict : List Check → Verdict
 verdict [] = pass
-verdict (c ∷ cs) = cond (c .holds) (verdict cs) (stop (c .refusal) (c .place))
+verdict (c ∷ cs) = cond (c .holds) (verdict cs) (stop (c .refusal))
 
 -- "A refusal returns its number and zero for each token; table, memory, state and the caller's buffer keep their bytes."
-abbrev pub refused : State → List ℕ → (refusal place : ℕ) → Decision
-refused s t r p = record { state = s; table = t; reply = record { refusal = r; place = p; first = 0; second = 0; dropped = 0 }; issued = []; effect = nothing }
+abbrev pub turnedAway : Refusal → Reply
+turnedAway r = record { refusal = refusalNumber r; bad = refusalBad r; tokens = []; dropped = 0 }
 
-abbrev pub settle : Verdict → ℕ → State → List ℕ → Request → List ℕ → Decision
-settle pass m s t q b = grant m s t q b
-settle (stop r p) m s t q b = refused s t r p
+abbrev pub refused : State → List ℕ → Refusal → Decision
+refused s t r = record { state = s; table = t; reply = turnedAway r; issued = []; effect = nothing }
+
+abbrev pub settle : Verdict → State → List ℕ → Grant → Decision
+settle pass s t g = carried s t g
+settle (stop r) s t g = refused s t r
 
 -- the decision on a request, where the memory has m bytes and the request brings the buffer b
 unfoldable pub decide : ℕ → State → List ℕ → Request → List ℕ → Decision
-decide m s t q b = settle (verdict (checks m s t q b)) m s t q b
+decide m s t q b = settle (verdict (checks m s t q b)) s t (grant m t q b)
+
+-- stores into memory, one after the other
+abbrev pub stored : List Store → List ℕ → List ℕ
+stored [] memory = memory
+stored (w ∷ ws) memory = stored ws (sets memory (w .start) (w .bytes))
+
+abbrev pub filled : Fill → (memory buffer : List ℕ) → List ℕ
+filled unfilled memory b = b
+filled (fillFrom a n) memory b = take n (drop a memory)
 
 -- an effect is carried out on memory and buffer
 abbrev pub memoryAfter : Effect → List ℕ → List ℕ
-memoryAfter nothing memory = memory
-memoryAfter (load a n) memory = memory
-memoryAfter (store a bs) memory = sets memory a bs
+memoryAfter f memory = stored (f .stores) memory
 
 abbrev pub bufferAfter : Effect → (memory buffer : List ℕ) → List ℕ
-bufferAfter nothing memory b = b
-bufferAfter (load a n) memory b = take n (drop a memory)
-bufferAfter (store a bs) memory b = b
+bufferAfter f memory b = filled (f .fill) memory b
 
 -- what stands between two requests
 pub record Machine : Type 0 where

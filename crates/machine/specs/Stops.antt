@@ -1,109 +1,154 @@
--- Where a request stops (01, "Where a request stops"). "Checks run down this table": for each request one list of checks in the order of 01's
--- table, each with what must hold and the refusal that is given if it does not.
+-- Where a request stops (01, "Where a request stops"): the refusals and their numbers, and for each request its checks in the order of 01's table, each
+-- with what must hold and the refusal that is given if it does not.
 -- Assumes nothing.
-use mathlib.Core.Bool.{Bool, not, cond}
+use mathlib.Core.Bool.{Bool, not}
 use mathlib.Core.List.{List, [], _∷_, _++_}
 use Prim.Native.Nat.{ℕ, _+_, _%_, _^_}
 use lib.Dec.{eqb, leb, ltb}
 use lib.ListN.{length}
+use Rattle.layout.specs.declared.entry.Entry.{Entry}
 use Rattle.tokens.specs.Permissions.{within, X}
 use Rattle.tokens.specs.Token.{named}
 use Rattle.machine.specs.Issuing.{newNumber}
-use Rattle.machine.specs.Line.{badPlace, isDead, isIll, isLocked, lineOf, lockedFrom, ownerOf}
-use Rattle.machine.specs.Operations.{namedEntry, numberOf, revokeNonce}
+use Rattle.machine.specs.Line.{ancestor, Bad, badOf, isDead, isIll, isLocked, itself, lineOf, lockedFrom, ownerOf}
+use Rattle.machine.specs.Operations.{book, Grant, grant, namedEntry, numberOf}
 use Rattle.machine.specs.Parts.{at, leastEntries, mostEntries, mostMemory, size, spent, State}
 use Rattle.machine.specs.Requests.{access, clone, create, derive, executeOnly, lock, merge, release, Request, reset, revoke, rightOf, unlock}
 
+-- ---- the refusals
+
+-- Each is named by its place in 01's table; 3 and 4 tell which entry was bad.
+pub data Refusal : Type 0 where
+  atRequest : Refusal
+  atEntry : Refusal
+  atForm : Bad → Refusal
+  atLine : Bad → Refusal
+  atLock : Refusal
+  atKind : Refusal
+  atRight : Refusal
+  atBounds : Refusal
+  atStanding : Refusal
+  atNumbers : Refusal
+  atNonces : Refusal
+
+-- the column "No." of 01's table
+abbrev pub refusalNumber : Refusal → ℕ
+refusalNumber atRequest = 1
+refusalNumber atEntry = 2
+refusalNumber (atForm b) = 3
+refusalNumber (atLine b) = 4
+refusalNumber atLock = 5
+refusalNumber atKind = 6
+refusalNumber atRight = 7
+refusalNumber atBounds = 8
+refusalNumber atStanding = 9
+refusalNumber atNumbers = 10
+refusalNumber atNonces = 11
+
+-- the named entry is 1, an ancestor 2; a refusal that tells of no entry has 0
+abbrev pub badNumber : Bad → ℕ
+badNumber itself = 1
+badNumber ancestor = 2
+
+abbrev pub refusalBad : Refusal → ℕ
+refusalBad atRequest = 0
+refusalBad atEntry = 0
+refusalBad (atForm b) = badNumber b
+refusalBad (atLine b) = badNumber b
+refusalBad atLock = 0
+refusalBad atKind = 0
+refusalBad atRight = 0
+refusalBad atBounds = 0
+refusalBad atStanding = 0
+refusalBad atNumbers = 0
+refusalBad atNonces = 0
+
+-- what must hold, and the refusal that is given if it does not
 pub record Check : Type 0 where
   pub holds : Bool
-  pub refusal : ℕ
-  pub place : ℕ
+  pub refusal : Refusal
 
--- a check without a place, and one of the line of the entry of number n
-abbrev pub need : ℕ → Bool → Check
-need r b = record { holds = b; refusal = r; place = 0 }
+abbrev pub need : Refusal → Bool → Check
+need r b = record { holds = b; refusal = r }
 
-abbrev pub needLine : ℕ → (number m : ℕ) → List ℕ → Bool → Check
-needLine r n m t b = record { holds = b; refusal = r; place = badPlace n (lineOf m t n) }
+-- several facts with one refusal
+abbrev pub needAll : Refusal → List Bool → List Check
+needAll r [] = []
+needAll r (b ∷ bs) = need r b ∷ needAll r bs
 
 -- ---- place 1: the request
 
 -- "a size or setting above is broken": memory, table
-abbrev pub sizes : ℕ → List ℕ → List Check
-sizes m t =
-    need 1 (leb 1 m)
-    ∷ need 1 (leb m mostMemory)
-    ∷ need 1 (eqb (length t % 32) 0)
-    ∷ need 1 (leb leastEntries (size t))
-    ∷ need 1 (leb (size t) mostEntries)
-    ∷ []
+abbrev pub sizes : ℕ → List ℕ → List Bool
+sizes m t = leb 1 m ∷ leb m mostMemory ∷ eqb (length t % 32) 0 ∷ leb leastEntries (size t) ∷ leb (size t) mostEntries ∷ []
 
 -- and state, which every request but reset takes
-abbrev pub settings : ℕ → State → List ℕ → List Check
-settings m s t =
-    sizes m t
-    ++ (need 1 (ltb (s .last) (size t))
-    ∷ need 1 (leb 1 (s .next))
-    ∷ need 1 (leb (s .next) spent)
-    ∷ [])
+abbrev pub settings : State → List ℕ → List Bool
+settings s t = ltb (s .last) (size t) ∷ leb 1 (s .next) ∷ leb (s .next) spent ∷ []
 
 -- "task 2^55 or more"
-abbrev pub taskFits : ℕ → Check
-taskFits u = need 1 (ltb u (2 ^ 55))
+abbrev pub taskFits : ℕ → Bool
+taskFits u = ltb u (2 ^ 55)
 
 -- "lock or unlock with task 0 (task 0 means none)"
-abbrev pub someTask : ℕ → Check
-someTask u = need 1 (not (eqb u 0))
+abbrev pub someTask : ℕ → Bool
+someTask u = not (eqb u 0)
 
 -- "an offset in the token of any request but an access"
-abbrev pub noOffset : ℕ → Check
-noOffset k = need 1 (eqb (named k .offset) 0)
+abbrev pub noOffset : ℕ → Bool
+noOffset k = eqb (named k .offset) 0
 
 -- "encoding above 3; permissions above 7"
-abbrev pub encodingFits : ℕ → Check
-encodingFits c = need 1 (leb c 3)
+abbrev pub encodingFits : ℕ → Bool
+encodingFits c = leb c 3
 
-abbrev pub permissionsFit : ℕ → Check
-permissionsFit p = need 1 (leb p 7)
+abbrev pub permissionsFit : ℕ → Bool
+permissionsFit p = leb p 7
 
 -- "create or derive length 0"
-abbrev pub someLength : ℕ → Check
-someLength l = need 1 (not (eqb l 0))
+abbrev pub someLength : ℕ → Bool
+someLength l = not (eqb l 0)
 
 -- The user is a 64-bit mark. 01's table does not list this, and no 64-bit request can reach it; the definitions are over all numbers, and a larger
 -- user would not fit its field.
-abbrev pub userFits : ℕ → Check
-userFits u = need 1 (ltb u (2 ^ 64))
+abbrev pub userFits : ℕ → Bool
+userFits u = ltb u (2 ^ 64)
 
 -- "1 to 4,096 bytes"
-abbrev pub transferFits : List ℕ → List Check
-transferFits b = need 1 (leb 1 (length b)) ∷ need 1 (leb (length b) 4096) ∷ []
+abbrev pub transferFits : List ℕ → List Bool
+transferFits b = leb 1 (length b) ∷ leb (length b) 4096 ∷ []
+
+-- "Reset takes a key and a first nonce (1 to 4,294,967,295)."
+abbrev pub firstNonceFits : ℕ → List Bool
+firstNonceFits ν = leb 1 ν ∷ ltb ν spent ∷ []
 
 -- ---- places 2 to 5: the entry, its line, the lock
 
 -- "number beyond the table, free, or another tag"
+abbrev pub isNamed : List ℕ → ℕ → List Bool
+isNamed t k = ltb (numberOf k) (size t) ∷ not (eqb (namedEntry t k .kind) 0) ∷ eqb (namedEntry t k .tag) (named k .tag) ∷ []
+
 abbrev pub entryNamed : List ℕ → ℕ → List Check
-entryNamed t k =
-    need 2 (ltb (numberOf k) (size t))
-    ∷ need 2 (not (eqb (namedEntry t k .kind) 0))
-    ∷ need 2 (eqb (namedEntry t k .tag) (named k .tag))
-    ∷ []
+entryNamed t k = needAll atEntry (isNamed t k)
 
 -- "an entry met is ill-formed"
 abbrev pub lineFormed : ℕ → List ℕ → ℕ → Check
-lineFormed m t k = needLine 3 (numberOf k) m t (not (isIll (lineOf m t (numberOf k))))
+lineFormed m t k = let l = lineOf m t (numberOf k) in need (atForm (badOf (numberOf k) l)) (not (isIll l))
 
 -- "dead; drop skips this"
 abbrev pub lineAlive : ℕ → List ℕ → ℕ → Check
-lineAlive m t k = needLine 4 (numberOf k) m t (not (isDead (lineOf m t (numberOf k))))
+lineAlive m t k = let l = lineOf m t (numberOf k) in need (atLine (badOf (numberOf k) l)) (not (isDead l))
 
 -- "locked for another task: access, create, merge, lock, unlock"
 abbrev pub lockOpen : ℕ → List ℕ → ℕ → ℕ → Check
-lockOpen m t k u = need 5 (not (lockedFrom t u (lineOf m t (numberOf k))))
+lockOpen m t k u = need atLock (not (lockedFrom t u (lineOf m t (numberOf k))))
 
--- places 2 to 4 for a token, and 2 to 5
+-- places 2 and 3 for a token, 2 to 4, and 2 to 5
+abbrev pub formed : ℕ → List ℕ → ℕ → List Check
+formed m t k = entryNamed t k ++ (lineFormed m t k ∷ [])
+
 abbrev pub live : ℕ → List ℕ → ℕ → List Check
-live m t k = entryNamed t k ++ (lineFormed m t k ∷ lineAlive m t k ∷ [])
+live m t k = formed m t k ++ (lineAlive m t k ∷ [])
 
 abbrev pub reachable : ℕ → List ℕ → ℕ → ℕ → List Check
 reachable m t k u = live m t k ++ (lockOpen m t k u ∷ [])
@@ -111,111 +156,117 @@ reachable m t k u = live m t k ++ (lockOpen m t k u ∷ [])
 -- ---- places 6 to 11
 
 -- "create, merge, revoke of an indirect entry"
-abbrev pub isDirect : List ℕ → ℕ → Check
-isDirect t k = need 6 (eqb (namedEntry t k .kind) 1)
+abbrev pub isDirect : Entry → Bool
+isDirect e = eqb (e .kind) 1
 
 -- "a permission, X or Lockable is lacking"
-abbrev pub rightsHeld : List ℕ → ℕ → ℕ → Check
-rightsHeld t k p = need 7 (within p (namedEntry t k .permissions))
+abbrev pub rightsHeld : ℕ → Entry → Check
+rightsHeld p e = need atRight (within p (e .permissions))
 
-abbrev pub ownerLockable : ℕ → List ℕ → ℕ → Check
-ownerLockable m t k = need 7 (at t (ownerOf (lineOf m t (numberOf k))) .lockable)
+-- "outside the segment, derive's sum, or not neighbours in order": what ends so many bytes after the base lies inside; a derive's sum is less than the
+-- length; the second begins where the first ends
+abbrev pub endsInside : ℕ → Entry → Check
+endsInside n e = need atBounds (leb n (e .length))
 
--- "outside the segment, derive's sum, or not neighbours in order"
-abbrev pub inBounds : Bool → Check
-inBounds b = need 8 b
+abbrev pub sumBelow : ℕ → Entry → Check
+sumBelow n e = need atBounds (ltb n (e .length))
+
+abbrev pub neighbours : Entry → Entry → Check
+neighbours d e = need atBounds (eqb (e .base) (d .base + d .length))
 
 -- "create or merge when locked or count not 0"
-abbrev pub unlockedEntry : List ℕ → ℕ → Check
-unlockedEntry t k = need 9 (not (namedEntry t k .locked))
+abbrev pub unlocked : Entry → Bool
+unlocked e = not (e .locked)
 
-abbrev pub countZero : List ℕ → ℕ → Check
-countZero t k = need 9 (eqb (namedEntry t k .count) 0)
+abbrev pub uncounted : Entry → Bool
+uncounted e = eqb (e .count) 0
 
--- "derive, execute-only, clone at 65,535"
-abbrev pub countBelowTop : List ℕ → ℕ → Check
-countBelowTop t k = need 9 (ltb (namedEntry t k .count) 65535)
+-- "derive, execute-only, clone at 65,535; drop at 0"
+abbrev pub belowTop : Entry → Check
+belowTop e = need atStanding (ltb (e .count) 65535)
+
+abbrev pub aboveZero : Entry → Check
+aboveZero e = need atStanding (not (eqb (e .count) 0))
 
 -- "no free number for create, derive, execute-only"
 abbrev pub numberLeft : State → List ℕ → Check
-numberLeft s t = need 10 (not (eqb (newNumber s t) 0))
+numberLeft s t = need atNumbers (not (eqb (newNumber s t) 0))
 
--- "too few left, those to be passed over not counted"
-abbrev pub noncesLeft : State → ℕ → Check
-noncesLeft s k = need 11 (leb (s .next + k) spent)
+-- what derive and execute-only ask of the parent e and the table
+abbrev pub bearing : State → List ℕ → Entry → List Check
+bearing s t e = belowTop e ∷ numberLeft s t ∷ []
+
+-- "too few left, those to be passed over not counted": the writes of the grant leave a next nonce that is a setting
+abbrev pub noncesLeft : State → List ℕ → Grant → Check
+noncesLeft s t g = need atNonces (leb (book s t g .state .next) spent)
 
 -- ---- the checks of each request
 
+-- by their places: 1, what the request itself is judged for; 2 to 5, its tokens; 6 to 10, the rest
+pub record Places : Type 0 where
+  pub request : List Bool
+  pub tokens : List Check
+  pub rest : List Check
+
+abbrev pub places : ℕ → State → List ℕ → Request → List ℕ → Places
+places m s t (reset k0 k1 ν) b = record { request = firstNonceFits ν; tokens = []; rest = [] }
+places m s t (access w k u) b =
+    let e = namedEntry t k in
+    record {
+      request = settings s t ++ (taskFits u ∷ transferFits b);
+      tokens = reachable m t k u;
+      rest = rightsHeld (rightOf w) e ∷ endsInside (named k .offset + length b) e ∷ [];
+    }
+places m s t (create k u l x p c) b =
+    let e = namedEntry t k in
+    record {
+      request = settings s t ++ (taskFits u ∷ encodingFits c ∷ permissionsFit p ∷ someLength l ∷ userFits x ∷ noOffset k ∷ []);
+      tokens = reachable m t k u;
+      rest = need atKind (isDirect e) ∷ rightsHeld p e ∷ endsInside l e ∷ need atStanding (unlocked e) ∷ need atStanding (uncounted e) ∷ numberLeft s t ∷ [];
+    }
+-- "Places 2 to 5 are done for a merge's first token, then its second."
+places m s t (merge j k u c) b =
+    let d = namedEntry t j in
+    let e = namedEntry t k in
+    record {
+      request = settings s t ++ (taskFits u ∷ encodingFits c ∷ noOffset j ∷ noOffset k ∷ []);
+      tokens = reachable m t j u ++ reachable m t k u;
+      rest = needAll atKind (isDirect d ∷ isDirect e ∷ []) ++ (neighbours d e ∷ needAll atStanding (unlocked d ∷ unlocked e ∷ uncounted d ∷ uncounted e ∷ []));
+    }
+places m s t (derive k o l p c) b =
+    let e = namedEntry t k in
+    record {
+      request = settings s t ++ (encodingFits c ∷ permissionsFit p ∷ someLength l ∷ noOffset k ∷ []);
+      tokens = live m t k;
+      rest = rightsHeld p e ∷ sumBelow (l + o) e ∷ bearing s t e;
+    }
+places m s t (executeOnly k c) b =
+    let e = namedEntry t k in
+    record {
+      request = settings s t ++ (encodingFits c ∷ noOffset k ∷ []);
+      tokens = live m t k;
+      rest = rightsHeld X e ∷ bearing s t e;
+    }
+places m s t (clone k) b = record { request = settings s t ++ (noOffset k ∷ []); tokens = live m t k; rest = belowTop (namedEntry t k) ∷ [] }
+places m s t (release k) b = record { request = settings s t ++ (noOffset k ∷ []); tokens = formed m t k; rest = aboveZero (namedEntry t k) ∷ [] }
+-- "needs the owner's Lockable"
+places m s t (lock k u) b =
+    let owner = at t (ownerOf (lineOf m t (numberOf k))) in
+    record {
+      request = settings s t ++ (taskFits u ∷ someTask u ∷ noOffset k ∷ []);
+      tokens = reachable m t k u;
+      rest = need atRight (owner .lockable) ∷ [];
+    }
+-- "unlock when unlocked"
+places m s t (unlock k u) b = record {
+  request = settings s t ++ (taskFits u ∷ someTask u ∷ noOffset k ∷ []);
+  tokens = reachable m t k u;
+  rest = need atStanding (isLocked t (lineOf m t (numberOf k))) ∷ [];
+}
+places m s t (revoke k c) b = record { request = settings s t ++ (encodingFits c ∷ noOffset k ∷ []); tokens = live m t k; rest = need atKind (isDirect (namedEntry t k)) ∷ [] }
+
+-- "Checks run down this table." The sizes are judged for every request, and so is place 11: one that issues nothing needs no nonce.
 abbrev pub checks : ℕ → State → List ℕ → Request → List ℕ → List Check
-checks m s t (reset k0 k1 ν) b = sizes m t ++ (need 1 (leb 1 ν) ∷ need 1 (ltb ν spent) ∷ [])
-checks m s t (access w k u) b =
-    settings m s t ++ (taskFits u ∷ transferFits b)
-    ++ reachable m t k u
-    ++ (rightsHeld t k (rightOf w)
-    ∷ inBounds (leb (named k .offset + length b) (namedEntry t k .length))
-    ∷ [])
-checks m s t (create k u l x p c) b =
-    settings m s t ++ (taskFits u ∷ encodingFits c ∷ permissionsFit p ∷ someLength l ∷ userFits x ∷ noOffset k ∷ [])
-    ++ reachable m t k u
-    ++ (isDirect t k
-    ∷ rightsHeld t k p
-    ∷ inBounds (leb l (namedEntry t k .length))
-    ∷ unlockedEntry t k
-    ∷ countZero t k
-    ∷ numberLeft s t
-    ∷ noncesLeft s (cond (eqb l (namedEntry t k .length)) 1 2)
-    ∷ [])
-checks m s t (merge j k u c) b =
-    settings m s t ++ (taskFits u ∷ encodingFits c ∷ noOffset j ∷ noOffset k ∷ [])
-    ++ reachable m t j u
-    ++ reachable m t k u
-    ++ (isDirect t j
-    ∷ isDirect t k
-    ∷ inBounds (eqb (namedEntry t k .base) (namedEntry t j .base + namedEntry t j .length))
-    ∷ unlockedEntry t j
-    ∷ unlockedEntry t k
-    ∷ countZero t j
-    ∷ countZero t k
-    ∷ noncesLeft s 1
-    ∷ [])
-checks m s t (derive k o l p c) b =
-    settings m s t ++ (encodingFits c ∷ permissionsFit p ∷ someLength l ∷ noOffset k ∷ [])
-    ++ live m t k
-    ++ (rightsHeld t k p
-    ∷ inBounds (ltb (l + o) (namedEntry t k .length))
-    ∷ countBelowTop t k
-    ∷ numberLeft s t
-    ∷ noncesLeft s 1
-    ∷ [])
-checks m s t (executeOnly k c) b =
-    settings m s t ++ (encodingFits c ∷ noOffset k ∷ [])
-    ++ live m t k
-    ++ (rightsHeld t k X
-    ∷ countBelowTop t k
-    ∷ numberLeft s t
-    ∷ noncesLeft s 1
-    ∷ [])
-checks m s t (clone k) b =
-    settings m s t ++ (noOffset k ∷ [])
-    ++ live m t k
-    ++ (countBelowTop t k ∷ [])
-checks m s t (release k) b =
-    settings m s t ++ (noOffset k ∷ [])
-    ++ entryNamed t k
-    ++ (lineFormed m t k
-    ∷ need 9 (not (eqb (namedEntry t k .count) 0))
-    ∷ [])
-checks m s t (lock k u) b =
-    settings m s t ++ (taskFits u ∷ someTask u ∷ noOffset k ∷ [])
-    ++ reachable m t k u
-    ++ (ownerLockable m t k ∷ [])
-checks m s t (unlock k u) b =
-    settings m s t ++ (taskFits u ∷ someTask u ∷ noOffset k ∷ [])
-    ++ reachable m t k u
-    ++ (need 9 (isLocked t (lineOf m t (numberOf k))) ∷ [])
-checks m s t (revoke k c) b =
-    settings m s t ++ (encodingFits c ∷ noOffset k ∷ [])
-    ++ live m t k
-    ++ (isDirect t k
-    ∷ need 11 (ltb (revokeNonce s t (numberOf k)) spent)
-    ∷ [])
+checks m s t q b =
+    let p = places m s t q b in
+    needAll atRequest (sizes m t ++ p .request) ++ (p .tokens ++ (p .rest ++ (noncesLeft s t (grant m t q b) ∷ [])))

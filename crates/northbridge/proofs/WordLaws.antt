@@ -1,29 +1,54 @@
 -- The words of a call: those that are stored one after the other, and an operation's number that no request has.
 -- Assumes nothing.
-use mathlib.Core.Path.{_≡_, refl, sym}
+use mathlib.Core.Path.{_≡_, refl, sym, _∙_, ap, ap₂}
 use mathlib.Core.Logic.{_≢_}
-use mathlib.Core.List.{List, [], _∷_}
-use Prim.Native.Nat.{ℕ, zero, suc, _≤_}
+use mathlib.Core.List.{List, [], _∷_, _++_, append-assoc, append-nil}
+use Prim.Native.Nat.{ℕ, zero, suc, _+_, _*_, _<_, _≤_}
+use native.Mathlib.Numerals.{add-one}
 use native.Mathlib.Omega.{arith}
-use lib.ListN.{length, List·getD-eq-default}
+use lib.ListN.{drop, getD, length, length-append, length-drop, List·getD-eq-default, take, take-append-drop}
+use lib.Seq.{drop-drop, getD-drop, length-take-le, take-all, take-at, take-suc}
 use borrow.Rule.Slice.PartMut.{putMid}
-use Rattle.bits.specs.Bytes.{bytes, lowBytes}
-use Rattle.bits.proofs.ByteLaws.{by-elements}
+use Rattle.bits.specs.Bytes.{lowBytes}
+use Rattle.bits.specs.SipHash.{word}
+use Rattle.bits.proofs.ByteLaws.{length-low-bytes, low-back, tabulate}
 use Rattle.northbridge.specs.Exported.{picked, requests, unknown, wordBytes}
 
--- words stored one after the other are the bytes of the whole
-module _ (s : List ℕ) (a b c d : ℕ) where
-  pub four-written : length s ≡ 32 → {p q r t : List ℕ}
-      → p ≡ putMid 0 8 s (lowBytes 8 a) → q ≡ putMid 8 8 p (lowBytes 8 b) → r ≡ putMid 16 8 q (lowBytes 8 c) → t ≡ putMid 24 8 r (lowBytes 8 d)
-      → t ≡ wordBytes (a ∷ b ∷ c ∷ d ∷ [])
-  unfolding lowBytes bytes
-  four-written h hp hq hr ht = rw (ht, hr, hq, hp, by-elements s 32 h)
+word-bytes-append : (v w : List ℕ) → wordBytes (v ++ w) ≡ wordBytes v ++ wordBytes w
+unfolding wordBytes
+word-bytes-append [] w = refl
+word-bytes-append (x ∷ v) w = rw (word-bytes-append v w, append-assoc)
 
-  pub five-written : (e : ℕ) → length s ≡ 40 → {p q r t u : List ℕ}
-      → p ≡ putMid 0 8 s (lowBytes 8 a) → q ≡ putMid 8 8 p (lowBytes 8 b) → r ≡ putMid 16 8 q (lowBytes 8 c) → t ≡ putMid 24 8 r (lowBytes 8 d) → u ≡ putMid 32 8 t (lowBytes 8 e)
-      → u ≡ wordBytes (a ∷ b ∷ c ∷ d ∷ e ∷ [])
-  unfolding lowBytes bytes
-  five-written e h hp hq hr ht hu = rw (hu, ht, hr, hq, hp, by-elements s 40 h)
+-- words stored one after the other: where the first i stand, word i stands after them
+pub one-more : (ws s t : List ℕ) (i : ℕ) → t ≡ putMid (8 * i) 8 s (lowBytes 8 (getD ws i 0)) → take (8 * i) s ≡ wordBytes (take i ws) → i < length ws → 8 * i + 8 ≤ length s
+    → take (8 * (i + 1)) t ≡ wordBytes (take (i + 1) ws)
+unfolding wordBytes
+one-more ws s t i put first h fits =
+    let w = lowBytes 8 (getD ws i 0) in
+    ap (take (8 * (i + 1))) (put ∙ sym (append-assoc (take (8 * i) s) w _))
+    ∙ take-at (take (8 * i) s ++ w) _ (8 * (i + 1)) (rw (length-append, length-take-le (8 * i) s (omega arith), length-low-bytes) (omega arith))
+    ∙ rw (first, add-one, take-suc ws i 0, word-bytes-append, append-nil)
+
+-- and all of them where they fill the part
+pub all-stored : (ws s : List ℕ) (i : ℕ) → length ws ≤ i → length s ≡ 8 * length ws → take (8 * i) s ≡ wordBytes (take i ws) → s ≡ wordBytes ws
+all-stored ws s i h fits first = sym (take-all (8 * i) s (omega arith)) ∙ first ∙ ap wordBytes (take-all i ws h)
+
+-- an element of a part is an element of the whole, or none
+taken : (n : ℕ) (s : List ℕ) (i : ℕ) → getD s i 0 < 256 → getD (take n s) i 0 < 256
+taken zero s i h = omega arith
+taken (suc n) [] i h = h
+taken (suc n) (x ∷ s) zero h = h
+taken (suc n) (x ∷ s) (suc i) h = taken n s i h
+
+-- bytes are the bytes of their words
+pub words-kept : (n : ℕ) (f : ℕ → ℕ) (s : List ℕ) → ((i : ℕ) → f i ≡ word s i) → ((i : ℕ) → getD s i 0 < 256) → length s ≡ 8 * n → wordBytes (tabulate n f) ≡ s
+unfolding word wordBytes
+words-kept zero f s same bytes long = take-all 0 s (omega arith)
+words-kept (suc n) f s same bytes long =
+    ap₂ _++_
+    (ap (lowBytes 8) (same 0) ∙ low-back (take 8 s) (length-take-le 8 s (omega arith)) (λ i. taken 8 s i (bytes i)))
+    (words-kept n (λ i. f (suc i)) (drop 8 s) (λ i. let e : 8 * suc i ≡ 8 + 8 * i = omega arith in same (suc i) ∙ rw (e, drop-drop)) (λ i. rw getD-drop (bytes (8 + i))) (rw length-drop (omega arith)))
+    ∙ take-append-drop 8 s
 
 -- a number that is none of the first n stands at n or above
 abbrev pub None : ℕ → ℕ → Type 0

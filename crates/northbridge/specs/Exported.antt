@@ -12,14 +12,19 @@ use Rattle.machine.specs.Operations.{Reply}
 use Rattle.machine.specs.Parts.{State}
 use Rattle.machine.specs.Requests.{access, Call, clone, create, derive, executeOnly, fetching, lock, merge, reading, release, Request, reset, revoke, unlock, writing}
 use Rattle.machine.specs.Steps as steps
-use Rattle.machine.specs.Steps.{Answer, Machine, step}
+use Rattle.machine.specs.Steps.{Answer, Machine, step, turnedAway}
+use Rattle.machine.specs.Stops.{atRequest, refusalNumber}
 
 -- words of 64 bits as bytes, the low byte first; `word s i` is word i of the bytes s
-abbrev pub wordBytes : List ℕ → List ℕ
+unfoldable pub wordBytes : List ℕ → List ℕ
 wordBytes [] = []
 wordBytes (w ∷ ws) = lowBytes 8 w ++ wordBytes ws
 
--- ---- a request: 64 bytes
+-- ---- a request
+
+-- in bytes
+abbrev pub requestSize : ℕ
+requestSize = 64
 
 pub data Asked : Type 0 where
   known : Request → Asked
@@ -50,18 +55,30 @@ picked o k x u l m p c = getD (requests k x u l m p c) o unknown
 abbrev pub requestOf : List ℕ → Asked
 requestOf q = picked (word q 0) (word q 1) (word q 2) (word q 3) (word q 4) (word q 5) (word q 6) (word q 7)
 
--- ---- a state: 32 bytes
+-- ---- a state
+
+-- in bytes
+abbrev pub stateSize : ℕ
+stateSize = 32
 
 abbrev pub stateOf : List ℕ → State
 stateOf s = record { key0 = word s 0; key1 = word s 1; last = word s 2; next = word s 3 }
 
-unfoldable pub stateBytes : State → List ℕ
+abbrev pub stateBytes : State → List ℕ
 stateBytes s = wordBytes (s .key0 ∷ s .key1 ∷ s .last ∷ s .next ∷ [])
 
--- ---- an answer: 40 bytes
+-- ---- an answer
 
-unfoldable pub answerBytes : Reply → List ℕ
-answerBytes r = wordBytes (r .refusal ∷ r .place ∷ r .first ∷ r .second ∷ r .dropped ∷ [])
+-- in bytes
+abbrev pub answerSize : ℕ
+answerSize = 40
+
+-- the refusal, its place (which entry was bad), two words for the tokens, zero where there is none, and drop's number
+abbrev pub replyWords : Reply → List ℕ
+replyWords r = r .refusal ∷ r .bad ∷ getD (r .tokens) 0 0 ∷ getD (r .tokens) 1 0 ∷ r .dropped ∷ []
+
+abbrev pub answerBytes : Reply → List ℕ
+answerBytes r = wordBytes (replyWords r)
 
 -- ---- a call
 
@@ -78,16 +95,13 @@ pub record Exported : Type 0 where
 abbrev pub served : Machine → Answer → Exported
 served σ a = record { result = a .reply .refusal; state = stateBytes (σ .state); table = σ .table; memory = σ .memory; buffer = a .buffer; answer = answerBytes (a .reply) }
 
--- refusal 1, where the call itself is broken: nothing is written but an answer of 40 bytes
-abbrev pub broken : Reply
-broken = record { refusal = 1; place = 0; first = 0; second = 0; dropped = 0 }
-
+-- refusal 1, where the call itself is broken: nothing is written but an answer of its size
 unfoldable pub told : (answer : List ℕ) → List ℕ
-told a = cond (eqb (length a) 40) (answerBytes broken) a
+told a = cond (eqb (length a) answerSize) (answerBytes (turnedAway atRequest)) a
 
 -- a request is read only if request, state and answer have their sizes
 abbrev pub sized : (request state answer : List ℕ) → Bool
-sized q s a = eqb (length q) 64 && eqb (length s) 32 && eqb (length a) 40
+sized q s a = eqb (length q) requestSize && eqb (length s) stateSize && eqb (length a) answerSize
 
 unfoldable pub asked : (request state answer : List ℕ) → Asked
 asked q s a = cond (sized q s a) (requestOf q) unknown
@@ -98,7 +112,7 @@ carried (known r) s t m b a =
     let call : Call = record { request = r; buffer = b } in
     served (step before call) (steps.answer before call)
 carried unknown s t m b a =
-    record { result = 1; state = s; table = t; memory = m; buffer = b; answer = told a }
+    record { result = refusalNumber atRequest; state = s; table = t; memory = m; buffer = b; answer = told a }
 
 unfoldable pub exported : (request state table memory buffer answer : List ℕ) → Exported
 exported q s t m b a = carried (asked q s a) s t m b a

@@ -1,11 +1,10 @@
 -- The code's values in the interface's terms.
 -- Assumes nothing.
-use mathlib.Core.List.{List}
+use mathlib.Core.List.{List, [], _∷_}
 use Prim.Native.Nat.{ℕ}
-use Rattle.machine.specs.Operations as machine
 use Rattle.operations.specs.Turns.{requestAs}
 use Rattle.northbridge.specs.Exported.{Asked, Exported, known, unknown}
-use Rattle.northbridge.specs.declared.answer.Reply.{Reply}
+use Rattle.northbridge.specs.declared.answer.AnswerWords.{AnswerWords}
 use Rattle.northbridge.specs.declared.request.Asked as code
 use Rattle.northbridge.specs.declared.request.Asked.the-variants.{Known, Unknown}
 
@@ -13,8 +12,8 @@ abbrev pub askedAs : code.Asked → Asked
 askedAs (Known q) = known (requestAs q)
 askedAs Unknown = unknown
 
-abbrev pub wordsAs : Reply → machine.Reply
-wordsAs r = record { refusal = r .refusal; place = r .place; first = r .first; second = r .second; dropped = r .dropped }
+abbrev pub wordsAs : AnswerWords → List ℕ
+wordsAs r = r .refusal ∷ r .place ∷ r .first ∷ r .second ∷ r .dropped ∷ []
 
 -- what a call returned, with the slices as it left them
 abbrev pub left : ℕ → (state table memory buffer answer : List ℕ) → Exported

@@ -1,17 +1,19 @@
-// An answer of 40 bytes: five words.
-use crate::words::put_word;
-use checks::answer::Place;
-use checks::answer::Refusal;
-use rulings::answer::Answer;
-use rulings::answer::number_of;
+// The answer as bytes: its words one after the other.
+use crate::words::put_words;
+use checks::refusal::told;
+use rulings::reply::Reply;
+use rulings::reply::Tokens;
 ghost use mathlib.Core.Path.{_≡_};
-ghost use lib.ListN.{length};
-ghost use Rattle.checks.specs.Answers.{placeAs, refusalPlace};
-ghost use Rattle.rulings.specs.Rulings.{replyAs};
-ghost use Rattle.northbridge.specs.Exported.{answerBytes};
+ghost use lib.ListN.{getD, length};
+ghost use Rattle.rulings.specs.Rulings.{replyAs, tokensAs};
+ghost use Rattle.northbridge.specs.Exported.{answerBytes, answerSize, replyWords};
 ghost use Rattle.northbridge.specs.Meanings.{wordsAs};
 
-pub struct Reply {
+// In bytes.
+pub(crate) const ANSWER_SIZE: usize = 40;
+
+// The words of an answer. `place` tells which entry was bad.
+pub struct AnswerWords {
     pub refusal: u64,
     pub place: u64,
     pub first: u64,
@@ -19,76 +21,59 @@ pub struct Reply {
     pub dropped: u64,
 }
 
-fn place_number(place: Place) -> u64
-    ensures { λ r. ⌜ r ≡ placeAs place ⌝ }
+// Two words for the tokens, zero where there is none.
+fn granted(tokens: Tokens, dropped: u64) -> AnswerWords
+    ensures { λ r. ⌜ (r .refusal ≡ 0) × (r .place ≡ 0) × (r .first ≡ getD (tokensAs tokens) 0 0) × (r .second ≡ getD (tokensAs tokens) 1 0) × (r .dropped ≡ dropped) ⌝ }
 {
-    match place {
-        Place::Named => 1,
-        Place::Ancestor => 2,
-    }
-}
-
-// Which entry was bad: 0 for a refusal that has no place.
-fn refusal_place(why: Refusal) -> u64
-    ensures { λ r. ⌜ r ≡ refusalPlace why ⌝ }
-{
-    match why {
-        Refusal::IllFormed(place) => place_number(place),
-        Refusal::Dead(place) => place_number(place),
-        Refusal::Request => 0,
-        Refusal::Entry => 0,
-        Refusal::Lock => 0,
-        Refusal::Kind => 0,
-        Refusal::Right => 0,
-        Refusal::Bounds => 0,
-        Refusal::Standing => 0,
-        Refusal::Numbers => 0,
-        Refusal::Nonces => 0,
-    }
-}
-
-fn reply_of(answer: Answer) -> Reply
-    ensures { λ r. ⌜ wordsAs r ≡ replyAs answer ⌝ }
-{
-    match answer {
-        Answer::Granted {
-            first,
-            second,
+    match tokens {
+        Tokens::None => AnswerWords {
+            refusal: 0,
+            place: 0,
+            first: 0,
+            second: 0,
             dropped,
-        } => Reply {
+        },
+        Tokens::One(first) => AnswerWords {
+            refusal: 0,
+            place: 0,
+            first,
+            second: 0,
+            dropped,
+        },
+        Tokens::Two(first, second) => AnswerWords {
             refusal: 0,
             place: 0,
             first,
             second,
             dropped,
         },
-        Answer::Refused(why) => Reply {
-            refusal: number_of(why),
-            place: refusal_place(why),
-            first: 0,
-            second: 0,
-            dropped: 0,
-        },
     }
 }
 
-fn write_reply(part: &mut [u8], r: Reply)
-    requires { ⌜ length (now part) ≡ 40 ⌝ }
-    ensures { λ _. ⌜ now (part .exit) ≡ answerBytes (wordsAs r) ⌝ }
+fn words_of(reply: Reply) -> AnswerWords
+    ensures { λ r. ⌜ wordsAs r ≡ replyWords (replyAs reply) ⌝ }
 {
-    put_word(part, 0, r.refusal);
-    put_word(part, 1, r.place);
-    put_word(part, 2, r.first);
-    put_word(part, 3, r.second);
-    put_word(part, 4, r.dropped);
+    match reply {
+        Reply::Granted { tokens, dropped } => granted(tokens, dropped),
+        Reply::Refused(why) => {
+            let words = told(why);
+            AnswerWords {
+                refusal: words.number,
+                place: words.bad,
+                first: 0,
+                second: 0,
+                dropped: 0,
+            }
+        }
+    }
 }
 
-// The answer is stored as 40 bytes, and its refusal handed back.
-pub(crate) fn write_answer(part: &mut [u8], answer: Answer) -> u64
-    requires { ⌜ length (now part) ≡ 40 ⌝ }
-    ensures { λ r. ⌜ (r ≡ replyAs answer .refusal) × (now (part .exit) ≡ answerBytes (replyAs answer)) ⌝ }
+// The answer is stored, and its refusal handed back.
+pub(crate) fn write_answer(part: &mut [u8], reply: Reply) -> u64
+    requires { ⌜ length (now part) ≡ answerSize ⌝ }
+    ensures { λ r. ⌜ (r ≡ replyAs reply .refusal) × (now (part .exit) ≡ answerBytes (replyAs reply)) ⌝ }
 {
-    let reply = reply_of(answer);
-    write_reply(part, reply);
-    reply.refusal
+    let w = words_of(reply);
+    put_words(part, &[w.refusal, w.place, w.first, w.second, w.dropped]);
+    w.refusal
 }

@@ -1,36 +1,42 @@
 // A call: its request is carried out, or the call is refused as broken.
+use crate::answer::ANSWER_SIZE;
 use crate::answer::write_answer;
 use crate::request::Asked;
+use crate::request::REQUEST_SIZE;
 use crate::request::request_of;
+use crate::state::STATE_SIZE;
 use crate::state::read_state;
 use crate::state::write_state;
-use checks::answer::Refusal;
+use checks::refusal::Refusal;
 use operations::serve::Request;
 use operations::state::State;
-use rulings::answer::Answer;
+use rulings::reply::Reply;
 ghost use mathlib.Core.Path.{_≡_};
 ghost use lib.ListN.{length};
 ghost use Rattle.operations.specs.Turns.{requestAs};
-ghost use Rattle.northbridge.specs.Exported.{asked, carried, known, told};
+ghost use Rattle.northbridge.specs.Exported.{answerSize, asked, carried, known, stateSize, told};
 ghost use Rattle.northbridge.specs.Meanings.{askedAs, left};
 
 // The request, if request, state and answer have their sizes.
 pub(crate) fn asked_of(request: &[u8], state: &[u8], answer: &[u8]) -> Asked
     ensures { λ r. ⌜ askedAs r ≡ asked (now (request .entry)) (now (state .entry)) (now (answer .entry)) ⌝ }
 {
-    if (request.len() == 64) & (state.len() == 32) & (answer.len() == 40) {
+    if (request.len() == REQUEST_SIZE)
+        & (state.len() == STATE_SIZE)
+        & (answer.len() == ANSWER_SIZE)
+    {
         request_of(request)
     } else {
         Asked::Unknown
     }
 }
 
-// A broken call: refusal 1, which an answer of 40 bytes tells.
+// A broken call: refusal 1, which an answer of its size tells.
 pub(crate) fn refuse(answer: &mut [u8]) -> u64
     ensures { λ r. ⌜ (r ≡ 1) × (now (answer .exit) ≡ told (now (answer .entry))) ⌝ }
 {
-    if answer.len() == 40 {
-        write_answer(answer, Answer::Refused(Refusal::Request))
+    if answer.len() == ANSWER_SIZE {
+        write_answer(answer, Reply::Refused(Refusal::Request))
     } else {
         1
     }
@@ -45,15 +51,14 @@ pub(crate) fn carry_out(
     buffer: &mut [u8],
     answer: &mut [u8],
 ) -> u64
-    requires { ⌜ (length (now state) ≡ 32) × (length (now answer) ≡ 40) ⌝ }
+    requires { ⌜ (length (now state) ≡ stateSize) × (length (now answer) ≡ answerSize) ⌝ }
     ensures { λ r. ⌜ left r (now (state .exit)) (now (table .exit)) (now (memory .exit)) (now (buffer .exit)) (now (answer .exit)) ≡ carried (known (requestAs request)) (now (state .entry)) (now (table .entry)) (now (memory .entry)) (now (buffer .entry)) (now (answer .entry)) ⌝ }
 {
-    let issuer = read_state(state);
-    let s = State { issuer };
+    let words = read_state(state);
+    let s = State { words };
     let served = s.serve(request, table, memory, buffer);
     let next = served.state;
-    let issuer = next.issuer;
-    write_state(state, issuer);
-    let told = served.answer;
+    write_state(state, next);
+    let told = served.reply;
     write_answer(answer, told)
 }

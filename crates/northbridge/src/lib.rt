@@ -13,7 +13,7 @@ ghost use mathlib.Core.Path.{_≡_};
 ghost use Rattle.northbridge.specs.Exported.{exported};
 ghost use Rattle.northbridge.specs.Meanings.{left};
 
-// Serves the request of 64 bytes, whatever the slices hold, and returns its refusal (0 granted).
+// Serves the request, whatever the slices hold, and returns its refusal (0 granted).
 #[no_mangle]
 pub extern "C" fn northbridge_serve(
     request: &[u8],

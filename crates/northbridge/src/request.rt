@@ -1,10 +1,13 @@
-// A request of 64 bytes: eight words.
+// A request as bytes: its words one after the other.
 use crate::words::word_at;
 use operations::serve::Request;
 ghost use mathlib.Core.Path.{_≡_};
 ghost use lib.ListN.{length};
-ghost use Rattle.northbridge.specs.Exported.{picked, requestOf};
+ghost use Rattle.northbridge.specs.Exported.{picked, requestOf, requestSize};
 ghost use Rattle.northbridge.specs.Meanings.{askedAs};
+
+// In bytes.
+pub(crate) const REQUEST_SIZE: usize = 64;
 
 // What is asked: a request, or nothing that the machine has.
 pub enum Asked {
@@ -65,9 +68,9 @@ fn pick(
     }
 }
 
-// The request that 64 bytes hold.
+// The request that the bytes hold.
 pub(crate) fn request_of(request: &[u8]) -> Asked
-    requires { ⌜ length (now request) ≡ 64 ⌝ }
+    requires { ⌜ length (now request) ≡ requestSize ⌝ }
     ensures { λ r. ⌜ askedAs r ≡ requestOf (now (request .entry)) ⌝ }
 {
     pick(

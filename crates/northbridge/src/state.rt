@@ -1,18 +1,21 @@
-// A state of 32 bytes: four words.
-use crate::words::put_word;
+// The state as bytes: its words one after the other.
+use crate::words::put_words;
 use crate::words::word_at;
-use rulings::issuer::Issuer;
+use table::state::StateWords;
 ghost use mathlib.Core.Path.{_≡_};
 ghost use lib.ListN.{length};
-ghost use Rattle.rulings.specs.Rulings.{issuerAs};
-ghost use Rattle.northbridge.specs.Exported.{stateBytes, stateOf};
+ghost use Rattle.table.specs.States.{stateAs};
+ghost use Rattle.northbridge.specs.Exported.{stateBytes, stateOf, stateSize};
 
-// The state that 32 bytes hold.
-pub(crate) fn read_state(part: &[u8]) -> Issuer
-    requires { ⌜ length (now part) ≡ 32 ⌝ }
-    ensures { λ r. ⌜ issuerAs r ≡ stateOf (now (part .entry)) ⌝ }
+// In bytes.
+pub(crate) const STATE_SIZE: usize = 32;
+
+// The state that the bytes hold.
+pub(crate) fn read_state(part: &[u8]) -> StateWords
+    requires { ⌜ length (now part) ≡ stateSize ⌝ }
+    ensures { λ r. ⌜ stateAs r ≡ stateOf (now (part .entry)) ⌝ }
 {
-    Issuer {
+    StateWords {
         key0: word_at(part, 0),
         key1: word_at(part, 1),
         last: word_at(part, 2),
@@ -20,13 +23,10 @@ pub(crate) fn read_state(part: &[u8]) -> Issuer
     }
 }
 
-// The state is stored as 32 bytes.
-pub(crate) fn write_state(part: &mut [u8], s: Issuer)
-    requires { ⌜ length (now part) ≡ 32 ⌝ }
-    ensures { λ _. ⌜ now (part .exit) ≡ stateBytes (issuerAs s) ⌝ }
+// The state is stored.
+pub(crate) fn write_state(part: &mut [u8], s: StateWords)
+    requires { ⌜ length (now part) ≡ stateSize ⌝ }
+    ensures { λ _. ⌜ now (part .exit) ≡ stateBytes (stateAs s) ⌝ }
 {
-    put_word(part, 0, s.key0);
-    put_word(part, 1, s.key1);
-    put_word(part, 2, s.last);
-    put_word(part, 3, s.next);
+    put_words(part, &[s.key0, s.key1, s.last, s.next]);
 }

@@ -1,22 +1,15 @@
 -- A request served, as one step of the machine.
 -- Assumes nothing.
 use mathlib.Core.List.{List}
+use Prim.Native.Nat.{ℕ}
 use Rattle.machine.specs.Requests as request
 use Rattle.machine.specs.Steps.{Answer, Machine}
-use Rattle.machine.specs.Parts as parts
-use Rattle.rulings.specs.Rulings.{issuerAs, replyAs, Ruling}
-use Rattle.operations.specs.declared.state.Served.{Served}
-use Rattle.operations.specs.declared.state.State.{State}
+use Rattle.table.specs.States.{stateAs}
+use Rattle.table.specs.declared.state.StateWords.{StateWords}
+use Rattle.rulings.specs.Rulings.{replyAs}
+use Rattle.rulings.specs.declared.reply.Outcome.{Outcome}
 use Rattle.operations.specs.declared.serve.Request.{Request}
 use Rattle.operations.specs.declared.serve.Request.the-variants.{Clone, Create, Derive, Drop, ExecuteOnly, Fetch, Lock, Merge, Read, Reset, Revoke, Unlock, Write}
-use Prim.Native.Nat.{ℕ}
-
--- the state, and what an operation hands back with the table that it leaves, in the machine's terms
-abbrev pub stateAs : State → parts.State
-stateAs s = issuerAs (s .issuer)
-
-abbrev pub returned : Served → List ℕ → Ruling
-returned r t = record { state = stateAs (r .state); table = t; reply = replyAs (r .answer) }
 
 -- the request in the machine's terms, and the call that brings a buffer with it
 abbrev pub requestAs : Request → request.Request
@@ -38,12 +31,12 @@ abbrev pub callAs : request.Request → List ℕ → request.Call
 callAs q b = record { request = q; buffer = b }
 
 -- what stands before a request, and after one that was served
-abbrev pub before : State → (table memory : List ℕ) → Machine
+abbrev pub before : StateWords → (table memory : List ℕ) → Machine
 before s t m = record { state = stateAs s; table = t; memory = m }
 
-abbrev pub after : Served → (table memory : List ℕ) → Machine
+abbrev pub after : Outcome → (table memory : List ℕ) → Machine
 after r t m = record { state = stateAs (r .state); table = t; memory = m }
 
 -- what it answers, with the buffer that comes back
-abbrev pub answered : Served → List ℕ → Answer
-answered r b = record { reply = replyAs (r .answer); buffer = b }
+abbrev pub answered : Outcome → List ℕ → Answer
+answered r b = record { reply = replyAs (r .reply); buffer = b }

@@ -1,15 +1,15 @@
 // Accesses: read, write and fetch, through a token, at its offset.
-use crate::state::Served;
 use crate::state::State;
 use accesses::access::Loading;
 use accesses::access::fill;
 use accesses::access::write;
+use rulings::reply::Outcome;
 ghost use mathlib.Core.Path.{_≡_};
 ghost use lib.ListN.{length};
 ghost use Rattle.machine.specs.Requests as request;
 ghost use Rattle.machine.specs.Steps.{bufferAfter, memoryAfter};
-ghost use Rattle.rulings.specs.Rulings.{decided, effectOn};
-ghost use Rattle.operations.specs.Turns.{returned, stateAs};
+ghost use Rattle.table.specs.States.{stateAs};
+ghost use Rattle.rulings.specs.Rulings.{effectOn, handed, rulingOn};
 
 impl State {
     // The segment's bytes at the token's offset go to the buffer: needs R.
@@ -20,18 +20,12 @@ impl State {
         buffer: &mut [u8],
         token: u64,
         task: u64,
-    ) -> Served
-        ensures { λ r. ⌜ returned r (now (table .entry)) ≡ decided (length (now (memory .entry))) (stateAs self) (now (table .entry)) (request.access request.reading token task) (now (buffer .entry)) ⌝ }
-        ensures { λ _. ⌜ now (buffer .exit) ≡ bufferAfter (effectOn (length (now (memory .entry))) (stateAs self) (now (table .entry)) (request.access request.reading token task) (now (buffer .entry))) (now (memory .entry)) (now (buffer .entry)) ⌝ }
+    ) -> Outcome
+        ensures { λ r. ⌜ handed r (now (table .entry)) ≡ rulingOn (length (now (memory .entry))) (stateAs (self .words)) (now (table .entry)) (request.access request.reading token task) (now (buffer .entry)) ⌝ }
+        ensures { λ _. ⌜ now (buffer .exit) ≡ bufferAfter (effectOn (length (now (memory .entry))) (stateAs (self .words)) (now (table .entry)) (request.access request.reading token task) (now (buffer .entry))) (now (memory .entry)) (now (buffer .entry)) ⌝ }
     {
-        let issuer = self.issuer;
-        let o = fill(issuer, Loading::Read, table, memory, buffer, token, task);
-        let issuer = o.issuer;
-        let answer = o.answer;
-        Served {
-            state: State { issuer },
-            answer,
-        }
+        let words = self.words;
+        fill(words, Loading::Read, table, memory, buffer, token, task)
     }
 
     // The same with X.
@@ -42,18 +36,12 @@ impl State {
         buffer: &mut [u8],
         token: u64,
         task: u64,
-    ) -> Served
-        ensures { λ r. ⌜ returned r (now (table .entry)) ≡ decided (length (now (memory .entry))) (stateAs self) (now (table .entry)) (request.access request.fetching token task) (now (buffer .entry)) ⌝ }
-        ensures { λ _. ⌜ now (buffer .exit) ≡ bufferAfter (effectOn (length (now (memory .entry))) (stateAs self) (now (table .entry)) (request.access request.fetching token task) (now (buffer .entry))) (now (memory .entry)) (now (buffer .entry)) ⌝ }
+    ) -> Outcome
+        ensures { λ r. ⌜ handed r (now (table .entry)) ≡ rulingOn (length (now (memory .entry))) (stateAs (self .words)) (now (table .entry)) (request.access request.fetching token task) (now (buffer .entry)) ⌝ }
+        ensures { λ _. ⌜ now (buffer .exit) ≡ bufferAfter (effectOn (length (now (memory .entry))) (stateAs (self .words)) (now (table .entry)) (request.access request.fetching token task) (now (buffer .entry))) (now (memory .entry)) (now (buffer .entry)) ⌝ }
     {
-        let issuer = self.issuer;
-        let o = fill(issuer, Loading::Fetch, table, memory, buffer, token, task);
-        let issuer = o.issuer;
-        let answer = o.answer;
-        Served {
-            state: State { issuer },
-            answer,
-        }
+        let words = self.words;
+        fill(words, Loading::Fetch, table, memory, buffer, token, task)
     }
 
     // The buffer goes to the segment at the token's offset: needs W.
@@ -64,17 +52,11 @@ impl State {
         buffer: &[u8],
         token: u64,
         task: u64,
-    ) -> Served
-        ensures { λ r. ⌜ returned r (now (table .entry)) ≡ decided (length (now (memory .entry))) (stateAs self) (now (table .entry)) (request.access request.writing token task) (now (buffer .entry)) ⌝ }
-        ensures { λ _. ⌜ now (memory .exit) ≡ memoryAfter (effectOn (length (now (memory .entry))) (stateAs self) (now (table .entry)) (request.access request.writing token task) (now (buffer .entry))) (now (memory .entry)) ⌝ }
+    ) -> Outcome
+        ensures { λ r. ⌜ handed r (now (table .entry)) ≡ rulingOn (length (now (memory .entry))) (stateAs (self .words)) (now (table .entry)) (request.access request.writing token task) (now (buffer .entry)) ⌝ }
+        ensures { λ _. ⌜ now (memory .exit) ≡ memoryAfter (effectOn (length (now (memory .entry))) (stateAs (self .words)) (now (table .entry)) (request.access request.writing token task) (now (buffer .entry))) (now (memory .entry)) ⌝ }
     {
-        let issuer = self.issuer;
-        let o = write(issuer, table, memory, buffer, token, task);
-        let issuer = o.issuer;
-        let answer = o.answer;
-        Served {
-            state: State { issuer },
-            answer,
-        }
+        let words = self.words;
+        write(words, table, memory, buffer, token, task)
     }
 }

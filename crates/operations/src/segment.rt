@@ -1,6 +1,6 @@
 // Whole segments: reset, create, merge, revoke.
-use crate::state::Served;
 use crate::state::State;
+use rulings::reply::Outcome;
 use segments::create::create;
 use segments::merge::merge;
 use segments::reset::reset;
@@ -10,8 +10,8 @@ ghost use mathlib.Core.List.{[]};
 ghost use lib.ListN as list;
 ghost use Rattle.machine.specs.Requests as request;
 ghost use Rattle.machine.specs.Steps.{memoryAfter};
-ghost use Rattle.rulings.specs.Rulings.{decided, effectOn};
-ghost use Rattle.operations.specs.Turns.{returned, stateAs};
+ghost use Rattle.table.specs.States.{stateAs};
+ghost use Rattle.rulings.specs.Rulings.{effectOn, handed, rulingOn};
 
 impl State {
     // Writes the root entry, makes all other entries zeros, and starts from the key and nonce.
@@ -22,17 +22,11 @@ impl State {
         key0: u64,
         key1: u64,
         first_nonce: u64,
-    ) -> Served
-        ensures { λ r. ⌜ returned r (now (table .exit)) ≡ decided (list.length (now (memory .entry))) (stateAs self) (now (table .entry)) (request.reset key0 key1 «first_nonce») [] ⌝ }
+    ) -> Outcome
+        ensures { λ r. ⌜ handed r (now (table .exit)) ≡ rulingOn (list.length (now (memory .entry))) (stateAs (self .words)) (now (table .entry)) (request.reset key0 key1 «first_nonce») [] ⌝ }
     {
-        let issuer = self.issuer;
-        let o = reset(issuer, table, memory, key0, key1, first_nonce);
-        let issuer = o.issuer;
-        let answer = o.answer;
-        Served {
-            state: State { issuer },
-            answer,
-        }
+        let words = self.words;
+        reset(words, table, memory, key0, key1, first_nonce)
     }
 
     // A front part of the segment as a segment of its own, with a user and permissions, and the
@@ -47,12 +41,12 @@ impl State {
         user: u64,
         permissions: u64,
         encoding: u64,
-    ) -> Served
-        ensures { λ r. ⌜ returned r (now (table .exit)) ≡ decided (list.length (now (memory .entry))) (stateAs self) (now (table .entry)) (request.create token task length user permissions encoding) [] ⌝ }
+    ) -> Outcome
+        ensures { λ r. ⌜ handed r (now (table .exit)) ≡ rulingOn (list.length (now (memory .entry))) (stateAs (self .words)) (now (table .entry)) (request.create token task length user permissions encoding) [] ⌝ }
     {
-        let issuer = self.issuer;
-        let o = create(
-            issuer,
+        let words = self.words;
+        create(
+            words,
             table,
             memory,
             token,
@@ -61,13 +55,7 @@ impl State {
             user,
             permissions,
             encoding,
-        );
-        let issuer = o.issuer;
-        let answer = o.answer;
-        Served {
-            state: State { issuer },
-            answer,
-        }
+        )
     }
 
     // Two neighbours in order become one segment under the first's number.
@@ -79,17 +67,11 @@ impl State {
         second: u64,
         task: u64,
         encoding: u64,
-    ) -> Served
-        ensures { λ r. ⌜ returned r (now (table .exit)) ≡ decided (list.length (now (memory .entry))) (stateAs self) (now (table .entry)) (request.merge first second task encoding) [] ⌝ }
+    ) -> Outcome
+        ensures { λ r. ⌜ handed r (now (table .exit)) ≡ rulingOn (list.length (now (memory .entry))) (stateAs (self .words)) (now (table .entry)) (request.merge first second task encoding) [] ⌝ }
     {
-        let issuer = self.issuer;
-        let o = merge(issuer, table, memory, first, second, task, encoding);
-        let issuer = o.issuer;
-        let answer = o.answer;
-        Served {
-            state: State { issuer },
-            answer,
-        }
+        let words = self.words;
+        merge(words, table, memory, first, second, task, encoding)
     }
 
     // The segment is zeroed and issued anew, with all rights; the tag that it had names it no more.
@@ -99,17 +81,11 @@ impl State {
         memory: &mut [u8],
         token: u64,
         encoding: u64,
-    ) -> Served
-        ensures { λ r. ⌜ returned r (now (table .exit)) ≡ decided (list.length (now (memory .entry))) (stateAs self) (now (table .entry)) (request.revoke token encoding) [] ⌝ }
-        ensures { λ _. ⌜ now (memory .exit) ≡ memoryAfter (effectOn (list.length (now (memory .entry))) (stateAs self) (now (table .entry)) (request.revoke token encoding) []) (now (memory .entry)) ⌝ }
+    ) -> Outcome
+        ensures { λ r. ⌜ handed r (now (table .exit)) ≡ rulingOn (list.length (now (memory .entry))) (stateAs (self .words)) (now (table .entry)) (request.revoke token encoding) [] ⌝ }
+        ensures { λ _. ⌜ now (memory .exit) ≡ memoryAfter (effectOn (list.length (now (memory .entry))) (stateAs (self .words)) (now (table .entry)) (request.revoke token encoding) []) (now (memory .entry)) ⌝ }
     {
-        let issuer = self.issuer;
-        let o = revoke(issuer, table, memory, token, encoding);
-        let issuer = o.issuer;
-        let answer = o.answer;
-        Served {
-            state: State { issuer },
-            answer,
-        }
+        let words = self.words;
+        revoke(words, table, memory, token, encoding)
     }
 }

@@ -1,6 +1,6 @@
 // Any request, served: one step of the machine.
-use crate::state::Served;
 use crate::state::State;
+use rulings::reply::Outcome;
 ghost use mathlib.Core.Path.{_≡_};
 ghost use Rattle.machine.specs.Steps.{answer, step};
 ghost use Rattle.operations.specs.Turns.{after, answered, before, callAs, requestAs};
@@ -78,9 +78,9 @@ impl State {
         table: &mut [u8],
         memory: &mut [u8],
         buffer: &mut [u8],
-    ) -> Served
-        ensures { λ r. ⌜ after r (now (table .exit)) (now (memory .exit)) ≡ step (before self (now (table .entry)) (now (memory .entry))) (callAs (requestAs request) (now (buffer .entry))) ⌝ }
-        ensures { λ r. ⌜ answered r (now (buffer .exit)) ≡ answer (before self (now (table .entry)) (now (memory .entry))) (callAs (requestAs request) (now (buffer .entry))) ⌝ }
+    ) -> Outcome
+        ensures { λ r. ⌜ after r (now (table .exit)) (now (memory .exit)) ≡ step (before (self .words) (now (table .entry)) (now (memory .entry))) (callAs (requestAs request) (now (buffer .entry))) ⌝ }
+        ensures { λ r. ⌜ answered r (now (buffer .exit)) ≡ answer (before (self .words) (now (table .entry)) (now (memory .entry))) (callAs (requestAs request) (now (buffer .entry))) ⌝ }
     {
         match request {
             Request::Reset {

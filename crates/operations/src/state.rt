@@ -1,15 +1,8 @@
-// The state, and what an operation hands back.
-use rulings::answer::Answer;
-use rulings::issuer::Issuer;
+// The state.
+use table::state::StateWords;
 
-// The key, the last number given and the next nonce: what issues go by. Each operation takes the
-// state by value and hands it back.
+// The state, whose methods are the operations. Each takes it by value and hands its words back beside
+// the reply.
 pub struct State {
-    pub issuer: Issuer,
-}
-
-// The state beside the answer.
-pub struct Served {
-    pub state: State,
-    pub answer: Answer,
+    pub words: StateWords,
 }

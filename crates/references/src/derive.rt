@@ -1,27 +1,27 @@
 // Derive makes a child over a part of the segment.
 use crate::child::allot_child;
 use crate::child::grant_child;
-use checks::answer::Refusal;
 use checks::reach::Reached;
 use checks::reach::reach_live;
+use checks::refusal::Refusal;
 use checks::settings::settings;
 use rulings::allot::Allotted;
-use rulings::answer::Outcome;
-use rulings::answer::refused;
-use rulings::issuer::Issuer;
+use rulings::reply::Outcome;
+use rulings::reply::refused;
 use table::entries::entry_at;
+use table::state::StateWords;
 use tokens::permissions::within;
 use tokens::token::read;
 ghost use mathlib.Core.Path.{_≡_};
 ghost use mathlib.Core.List.{[]};
-ghost use Prim.Native.Nat.{_+_, _*_, _≤_};
+ghost use Prim.Native.Nat.{ℕ, _+_, _*_, _≤_};
 ghost use lib.Dec.{ltb};
 ghost use lib.ListN as list;
 ghost use Rattle.machine.specs.Operations.{numberOf};
 ghost use Rattle.machine.specs.Requests as request;
-ghost use Rattle.rulings.specs.Allotments.{allotted, Allots, Settled};
-ghost use Rattle.references.specs.Children.{partVerdict};
-ghost use Rattle.rulings.specs.Rulings.{decided, granting, handed, issuerAs, verdictOn};
+ghost use Rattle.rulings.specs.Allotments.{allotted, Allots, Limits};
+ghost use Rattle.table.specs.States.{stateAs};
+ghost use Rattle.rulings.specs.Rulings.{granting, handed, restOn, rulingOn, verdictOn};
 
 // The true sum of a and b is below the end.
 fn sum_below(a: u64, b: u64, end: u64) -> bool
@@ -30,18 +30,18 @@ fn sum_below(a: u64, b: u64, end: u64) -> bool
     if a < end { b < end - a } else { false }
 }
 
-// Places 7 to 11.
+// Places 7 to 11, which look at nothing else that the request carries.
 fn check_part(
-    s: Issuer,
+    s: StateWords,
     table: &[u8],
     token: u64,
     offset: u64,
     length: u64,
     permissions: u64,
 ) -> Allotted
-    requires { ⌜ Settled (now table) (s .last) (s .next) × (permissions ≤ 7) ⌝ }
+    requires { ⌜ Limits (stateAs s) (now table) × (permissions ≤ 7) ⌝ }
     requires { ⌜ 32 * numberOf token + 32 ≤ list.length (now table) ⌝ }
-    ensures { λ r. ⌜ Allots (issuerAs s) (now (table .entry)) r (partVerdict (issuerAs s) (now (table .entry)) token offset length permissions) ⌝ }
+    ensures { λ r. ⌜ ((m c : ℕ) → Allots (stateAs s) (now (table .entry)) r (restOn m (stateAs s) (now (table .entry)) (request.derive token offset length permissions c) [])) ⌝ }
 {
     let named = read(token);
     let e = entry_at(table, named.number as usize);
@@ -51,11 +51,11 @@ fn check_part(
     if !sum_below(length, offset, e.length as u64) {
         return Allotted::Stop(Refusal::Bounds);
     }
-    allot_child(s, table, e.count)
+    allot_child(s, table, e)
 }
 
 fn check_derive(
-    s: Issuer,
+    s: StateWords,
     table: &[u8],
     memory: u64,
     token: u64,
@@ -64,10 +64,10 @@ fn check_derive(
     permissions: u64,
     encoding: u64,
 ) -> Allotted
-    ensures { λ r. ⌜ Allots (issuerAs s) (now (table .entry)) r (verdictOn memory (issuerAs s) (now (table .entry)) (request.derive token offset length permissions encoding) []) ⌝ }
+    ensures { λ r. ⌜ Allots (stateAs s) (now (table .entry)) r (verdictOn memory (stateAs s) (now (table .entry)) (request.derive token offset length permissions encoding) []) ⌝ }
 {
     let named = read(token);
-    if settings(memory, table, s.last, s.next)
+    if settings(memory, s, table)
         & (encoding <= 3)
         & (permissions <= 7)
         & (length != 0)
@@ -84,7 +84,7 @@ fn check_derive(
 }
 
 fn grant_derive(
-    mut s: Issuer,
+    mut s: StateWords,
     table: &mut [u8],
     memory: u64,
     new: usize,
@@ -94,8 +94,8 @@ fn grant_derive(
     permissions: u64,
     encoding: u64,
 ) -> Outcome
-    requires { ⌜ allotted memory (issuerAs s) (now table) (request.derive token offset length permissions encoding) new ⌝ }
-    ensures { λ r. ⌜ handed r (now (table .exit)) ≡ granting memory (issuerAs s) (now (table .entry)) (request.derive token offset length permissions encoding) [] ⌝ }
+    requires { ⌜ allotted memory (stateAs s) (now table) (request.derive token offset length permissions encoding) new ⌝ }
+    ensures { λ r. ⌜ handed r (now (table .exit)) ≡ granting memory (stateAs s) (now (table .entry)) (request.derive token offset length permissions encoding) [] ⌝ }
 {
     let named = read(token);
     grant_child(
@@ -112,7 +112,7 @@ fn grant_derive(
 
 // A token for a part of the segment, with no permission that its parent has not.
 pub fn derive(
-    mut s: Issuer,
+    mut s: StateWords,
     table: &mut [u8],
     memory: &[u8],
     token: u64,
@@ -121,7 +121,7 @@ pub fn derive(
     permissions: u64,
     encoding: u64,
 ) -> Outcome
-    ensures { λ r. ⌜ handed r (now (table .exit)) ≡ decided (list.length (now (memory .entry))) (issuerAs s) (now (table .entry)) (request.derive token offset length permissions encoding) [] ⌝ }
+    ensures { λ r. ⌜ handed r (now (table .exit)) ≡ rulingOn (list.length (now (memory .entry))) (stateAs s) (now (table .entry)) (request.derive token offset length permissions encoding) [] ⌝ }
 {
     let bytes = memory.len() as u64;
     let r = check_derive(

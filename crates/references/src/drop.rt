@@ -1,58 +1,58 @@
 // Drop takes one from the count; an indirect entry at 1 is freed, and the drop climbs.
-use checks::answer::Refusal;
 use checks::reach::Formed;
 use checks::reach::reach_formed;
+use checks::refusal::Refusal;
 use checks::settings::settings;
-use layout::entry::free_words;
-use layout::entry::recounted;
-use rulings::answer::Outcome;
-use rulings::answer::plain;
-use rulings::answer::refused;
-use rulings::issuer::Issuer;
+use rulings::reply::Outcome;
+use rulings::reply::plain;
+use rulings::reply::refused;
 use table::entries::entry_at;
-use table::entries::put_words;
 use table::entries::words_at;
 use table::line::linked;
 use table::line::parent_number;
+use table::state::StateWords;
+use table::writes::recount;
+use table::writes::vacate;
 use tokens::token::read;
 ghost use mathlib.Core.Path.{_≡_};
 ghost use mathlib.Core.List.{[]};
-ghost use Prim.Native.Nat.{suc, _+_, _*_, _≤_};
+ghost use Prim.Native.Nat.{_+_, _*_, _≤_};
 ghost use lib.ListN.{length};
-ghost use Rattle.checks.specs.Answers.{Forms};
+ghost use Rattle.checks.specs.Reached.{Forms};
 ghost use Rattle.machine.specs.Line.{isLocked, lineOf};
-ghost use Rattle.machine.specs.Operations.{climb, numberOf};
-ghost use Rattle.machine.specs.Parts.{at};
+ghost use Rattle.machine.specs.Operations.{numberOf};
 ghost use Rattle.machine.specs.Requests as request;
 ghost use Rattle.machine.specs.Steps.{pass};
-ghost use Rattle.rulings.specs.Rulings.{decided, granting, handed, issuerAs, verdictOn};
+ghost use Rattle.table.specs.States.{stateAs};
+ghost use Rattle.rulings.specs.Rulings.{granting, handed, rulingOn, verdictOn};
+ghost use Rattle.references.specs.Climbs.{Climbed};
 
 // Drops entry n, and its parent if the entry is freed and the link holds. A count of 0 stays.
 fn climb(table: &mut [u8], n: usize)
     requires { ⌜ 32 * n + 32 ≤ length (now table) ⌝ }
-    ensures { λ _. ⌜ now (table .exit) ≡ climb (suc (at (now (table .entry)) n .nonce)) (now (table .entry)) n ⌝ }
+    ensures { λ _. ⌜ Climbed (now (table .entry)) n (now (table .exit)) ⌝ }
 {
     let e = entry_at(table, n);
     if e.count == 0 {
         return;
     }
     if (2 <= e.count) | (e.kind == 1) {
-        put_words(table, n, recounted(words_at(table, n), e.count - 1));
+        recount(table, n, words_at(table, n), e.count - 1);
         return;
     }
     let up = linked(table, e);
-    put_words(table, n, free_words());
+    vacate(table, n);
     if up {
         climb(table, parent_number(e) as usize);
     }
 }
 
 // Place 4 is skipped. The line's lock is told with the pass.
-fn check_drop(s: Issuer, table: &[u8], memory: u64, token: u64) -> Formed
-    ensures { λ r. ⌜ Forms r (verdictOn memory (issuerAs s) (now (table .entry)) (request.release token) []) (isLocked (now (table .entry)) (lineOf memory (now (table .entry)) (numberOf token))) ⌝ }
+fn check_drop(s: StateWords, table: &[u8], memory: u64, token: u64) -> Formed
+    ensures { λ r. ⌜ Forms r (verdictOn memory (stateAs s) (now (table .entry)) (request.release token) []) (isLocked (now (table .entry)) (lineOf memory (now (table .entry)) (numberOf token))) ⌝ }
 {
     let named = read(token);
-    if settings(memory, table, s.last, s.next) & (named.offset == 0) {
+    if settings(memory, s, table) & (named.offset == 0) {
         let r = reach_formed(table, memory, token);
         match r {
             Formed::Stop(why) => Formed::Stop(why),
@@ -71,10 +71,10 @@ fn check_drop(s: Issuer, table: &[u8], memory: u64, token: u64) -> Formed
 }
 
 // At count 1 under a lock nothing changes.
-fn grant_drop(mut s: Issuer, table: &mut [u8], memory: u64, token: u64, locked: bool) -> Outcome
-    requires { ⌜ verdictOn memory (issuerAs s) (now table) (request.release token) [] ≡ pass ⌝ }
+fn grant_drop(mut s: StateWords, table: &mut [u8], memory: u64, token: u64, locked: bool) -> Outcome
+    requires { ⌜ verdictOn memory (stateAs s) (now table) (request.release token) [] ≡ pass ⌝ }
     requires { ⌜ locked ≡ isLocked (now table) (lineOf memory (now table) (numberOf token)) ⌝ }
-    ensures { λ r. ⌜ handed r (now (table .exit)) ≡ granting memory (issuerAs s) (now (table .entry)) (request.release token) [] ⌝ }
+    ensures { λ r. ⌜ handed r (now (table .exit)) ≡ granting memory (stateAs s) (now (table .entry)) (request.release token) [] ⌝ }
 {
     let named = read(token);
     let n = named.number as usize;
@@ -88,8 +88,8 @@ fn grant_drop(mut s: Issuer, table: &mut [u8], memory: u64, token: u64, locked: 
 }
 
 // One holder of the token less.
-pub fn drop(mut s: Issuer, table: &mut [u8], memory: &[u8], token: u64) -> Outcome
-    ensures { λ r. ⌜ handed r (now (table .exit)) ≡ decided (length (now (memory .entry))) (issuerAs s) (now (table .entry)) (request.release token) [] ⌝ }
+pub fn drop(mut s: StateWords, table: &mut [u8], memory: &[u8], token: u64) -> Outcome
+    ensures { λ r. ⌜ handed r (now (table .exit)) ≡ rulingOn (length (now (memory .entry))) (stateAs s) (now (table .entry)) (request.release token) [] ⌝ }
 {
     let bytes = memory.len() as u64;
     let r = check_drop(s, table, bytes, token);

@@ -1,15 +1,15 @@
 // Execute-only makes a child over the whole segment that can only be fetched from.
 use crate::child::allot_child;
 use crate::child::grant_child;
-use checks::answer::Refusal;
 use checks::reach::Reached;
 use checks::reach::reach_live;
+use checks::refusal::Refusal;
 use checks::settings::settings;
 use rulings::allot::Allotted;
-use rulings::answer::Outcome;
-use rulings::answer::refused;
-use rulings::issuer::Issuer;
+use rulings::reply::Outcome;
+use rulings::reply::refused;
 use table::entries::entry_at;
+use table::state::StateWords;
 use tokens::permissions::within;
 use tokens::token::read;
 ghost use mathlib.Core.Path.{_≡_};
@@ -17,20 +17,27 @@ ghost use mathlib.Core.List.{[]};
 ghost use lib.ListN.{length};
 ghost use Rattle.machine.specs.Requests as request;
 ghost use Rattle.rulings.specs.Allotments.{allotted, Allots};
-ghost use Rattle.rulings.specs.Rulings.{decided, granting, handed, issuerAs, verdictOn};
+ghost use Rattle.table.specs.States.{stateAs};
+ghost use Rattle.rulings.specs.Rulings.{granting, handed, rulingOn, verdictOn};
 
-fn check_execute_only(s: Issuer, table: &[u8], memory: u64, token: u64, encoding: u64) -> Allotted
-    ensures { λ r. ⌜ Allots (issuerAs s) (now (table .entry)) r (verdictOn memory (issuerAs s) (now (table .entry)) (request.executeOnly token encoding) []) ⌝ }
+fn check_execute_only(
+    s: StateWords,
+    table: &[u8],
+    memory: u64,
+    token: u64,
+    encoding: u64,
+) -> Allotted
+    ensures { λ r. ⌜ Allots (stateAs s) (now (table .entry)) r (verdictOn memory (stateAs s) (now (table .entry)) (request.executeOnly token encoding) []) ⌝ }
 {
     let named = read(token);
-    if settings(memory, table, s.last, s.next) & (encoding <= 3) & (named.offset == 0) {
+    if settings(memory, s, table) & (encoding <= 3) & (named.offset == 0) {
         let r = reach_live(table, memory, token);
         match r {
             Reached::Stop(why) => Allotted::Stop(why),
             Reached::Owner(_) => {
                 let e = entry_at(table, named.number as usize);
                 if within(1, e.permissions) {
-                    allot_child(s, table, e.count)
+                    allot_child(s, table, e)
                 } else {
                     Allotted::Stop(Refusal::Right)
                 }
@@ -42,15 +49,15 @@ fn check_execute_only(s: Issuer, table: &[u8], memory: u64, token: u64, encoding
 }
 
 fn grant_execute_only(
-    mut s: Issuer,
+    mut s: StateWords,
     table: &mut [u8],
     memory: u64,
     new: usize,
     token: u64,
     encoding: u64,
 ) -> Outcome
-    requires { ⌜ allotted memory (issuerAs s) (now table) (request.executeOnly token encoding) new ⌝ }
-    ensures { λ r. ⌜ handed r (now (table .exit)) ≡ granting memory (issuerAs s) (now (table .entry)) (request.executeOnly token encoding) [] ⌝ }
+    requires { ⌜ allotted memory (stateAs s) (now table) (request.executeOnly token encoding) new ⌝ }
+    ensures { λ r. ⌜ handed r (now (table .exit)) ≡ granting memory (stateAs s) (now (table .entry)) (request.executeOnly token encoding) [] ⌝ }
 {
     let named = read(token);
     let n = named.number as usize;
@@ -60,13 +67,13 @@ fn grant_execute_only(
 
 // A token for the segment with X alone.
 pub fn execute_only(
-    mut s: Issuer,
+    mut s: StateWords,
     table: &mut [u8],
     memory: &[u8],
     token: u64,
     encoding: u64,
 ) -> Outcome
-    ensures { λ r. ⌜ handed r (now (table .exit)) ≡ decided (length (now (memory .entry))) (issuerAs s) (now (table .entry)) (request.executeOnly token encoding) [] ⌝ }
+    ensures { λ r. ⌜ handed r (now (table .exit)) ≡ rulingOn (length (now (memory .entry))) (stateAs s) (now (table .entry)) (request.executeOnly token encoding) [] ⌝ }
 {
     let bytes = memory.len() as u64;
     let r = check_execute_only(s, table, bytes, token, encoding);

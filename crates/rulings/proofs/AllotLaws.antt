@@ -1,29 +1,34 @@
--- A new number and nonces: the ways out of the search for them, and what the settings say.
+-- A new number and nonces: the ways out of the search for them, and what sizes and settings say.
 -- Assumes nothing.
 use mathlib.Core.Path.{_≡_}
-use mathlib.Core.Bool.{true, not}
-use mathlib.Core.List.{List}
-use Prim.Native.Nat.{ℕ, _+_, _-_, _*_, _/_, _%_, _≤_, _<_}
+use mathlib.Core.Bool.{Bool, true, not}
+use mathlib.Core.List.{List, _++_}
+use Prim.Native.Nat.{ℕ, _+_, _*_, _/_, _%_, _≤_, _<_}
 use native.Mathlib.Omega.{arith}
-use lib.Dec.{eqb, leb, ltb}
+use lib.Dec.{eqb, leb}
 use lib.ListN.{length}
 use borrow.Author.Tests.{eqb-false, eqb-true, leb-true, le-leb, lt-leb, ltb-true, ne-eqb, not-true}
+use Rattle.checks.specs.Holds.{requestHolds}
 use Rattle.checks.proofs.ReachLaws.{reached-inside}
 use Rattle.machine.specs.Issuing.{newNumber}
 use Rattle.machine.specs.Line.{isIll, lineOf}
-use Rattle.machine.specs.Parts as parts
-use Rattle.machine.specs.Parts.{at, leastEntries, mostEntries, mostMemory, size, spent}
+use Rattle.machine.specs.Parts.{at, mostMemory, size, spent, State}
+use Rattle.machine.specs.Requests.{Request}
 use Rattle.machine.specs.Steps.{pass, stop}
+use Rattle.machine.specs.Stops.{atNonces, atNumbers, places, settings, sizes}
+use Rattle.machine.proofs.Decided.{AllTrue, true-join, true-split}
 use Rattle.machine.proofs.Fuel.{number-first}
-use Rattle.rulings.specs.Allotments.{allotVerdict, Settled}
+use Rattle.rulings.specs.Allotments.{allotVerdict, Limits}
+use Rattle.rulings.specs.Rulings.{verdictOn}
+use Rattle.rulings.proofs.RulingLaws.{pass-true, request-true}
 
 -- the ways out, where n is the number found
-module _ (s : parts.State) (t : List ℕ) (k n : ℕ) (is : n ≡ newNumber s t) where
-  pub allot-none : n ≡ 0 → allotVerdict s t k ≡ stop 10 0
+module _ (s : State) (t : List ℕ) (k n : ℕ) (is : n ≡ newNumber s t) where
+  pub allot-none : n ≡ 0 → allotVerdict s t k ≡ stop atNumbers
   unfolding allotVerdict
   allot-none h = rw (← is, h)
 
-  pub allot-spent : (n ≡ 0 → ⊥) → spent < s .next + k → allotVerdict s t k ≡ stop 11 0
+  pub allot-spent : (n ≡ 0 → ⊥) → spent < s .next + k → allotVerdict s t k ≡ stop atNonces
   unfolding allotVerdict
   allot-spent h g = rw (← is, ne-eqb n 0 h, lt-leb (s .next + k) spent g)
 
@@ -31,36 +36,37 @@ module _ (s : parts.State) (t : List ℕ) (k n : ℕ) (is : n ≡ newNumber s t)
   unfolding allotVerdict
   allot-pass h g = rw (← is, ne-eqb n 0 h, le-leb (s .next + k) spent g)
 
--- the facts of checks that begin with the settings
-abbrev pub Set : ℕ → parts.State → List ℕ → Type 0 → Type 0
-Set m s t X =
-    (leb 1 m ≡ true)
-    × ((leb m mostMemory ≡ true)
-    × ((eqb (length t % 32) 0 ≡ true)
-    × ((leb leastEntries (size t) ≡ true)
-    × ((leb (size t) mostEntries ≡ true)
-    × ((ltb (s .last) (size t) ≡ true)
-    × ((leb 1 (s .next) ≡ true)
-    × ((leb (s .next) spent ≡ true)
-    × X)))))))
-
-module _ (m : ℕ) (s : parts.State) (t : List ℕ) {X : Type 0} (h : Set m s t X) where
-  pub settled : Settled t (s .last) (s .next)
+-- where sizes and settings hold
+module _ (m : ℕ) (s : State) (t : List ℕ) (h : AllTrue (sizes m t ++ settings s t)) where
+  pub limits : Limits s t
   unfolding size
-  settled =
+  limits =
       let whole : length t % 32 ≡ 0 = eqb-true _ _ (h .1 .1 .0) in
       let least : 2 ≤ length t / 32 = leb-true _ _ (h .1 .1 .1 .0) in
       let most : length t / 32 ≤ 1024 = leb-true _ _ (h .1 .1 .1 .1 .0) in
       record { least = omega arith; most = omega arith; inside = ltb-true _ _ (h .1 .1 .1 .1 .1 .0); left = leb-true _ _ (h .1 .1 .1 .1 .1 .1 .1 .0) }
 
-  -- an entry that is there and not ill-formed
-  pub segment-inside : (n : ℕ) → not (eqb (at t n .kind) 0) ≡ true → not (isIll (lineOf m t n)) ≡ true → at t n .base + at t n .length ≤ mostMemory
-  segment-inside n full formed = omega (arith, leb-true m mostMemory (h .1 .0), reached-inside m t n full formed)
+-- and whatever else a request is judged for, as far as it got
+module _ (m : ℕ) (s : State) (t : List ℕ) (q : Request) (b : List ℕ) (own : List Bool) (is : places m s t q b .request ≡ settings s t ++ own) where
+  set-limits : AllTrue (sizes m t ++ places m s t q b .request) → Limits s t
+  set-limits h =
+      let all : AllTrue (sizes m t ++ (settings s t ++ own)) = rw is at h in
+      let both = true-split (sizes m t) (settings s t ++ own) all in
+      limits m s t (true-join (sizes m t) (settings s t) (both .0) (true-split (settings s t) own (both .1) .0))
 
-  -- a number that is found stands in the table
-  pub new-in : not (eqb (newNumber s t) 0) ≡ true → 32 * newNumber s t + 32 ≤ length t
-  unfolding size
-  new-in some =
-      let two : 2 ≤ length t / 32 = leb-true _ _ (h .1 .1 .1 .0) in
-      let i : newNumber s t < length t / 32 = number-first s t (eqb-false _ _ (not-true _ some)) .inside in
-      omega arith
+  pub request-limits : requestHolds m s t q b ≡ true → Limits s t
+  request-limits h = set-limits (request-true m s t q b h)
+
+  pub pass-limits : verdictOn m s t q b ≡ pass → Limits s t
+  pass-limits h = set-limits (pass-true m s t q b h)
+
+-- an entry that is there and not ill-formed lies in memory
+pub segment-inside : (m : ℕ) (t : List ℕ) (n : ℕ) → leb m mostMemory ≡ true → not (eqb (at t n .kind) 0) ≡ true → not (isIll (lineOf m t n)) ≡ true → at t n .base + at t n .length ≤ mostMemory
+segment-inside m t n h full formed = omega (arith, leb-true m mostMemory h, reached-inside m t n full formed)
+
+-- a number that is found stands in the table
+pub new-in : (s : State) (t : List ℕ) → Limits s t → not (eqb (newNumber s t) 0) ≡ true → (32 * newNumber s t + 32 ≤ length t) × (newNumber s t < 1024)
+unfolding size
+new-in s t h some =
+    let i : newNumber s t < length t / 32 = number-first s t (eqb-false _ _ (not-true _ some)) .inside in
+    (omega (arith, h .most), omega (arith, h .most))

@@ -1,52 +1,129 @@
--- A request is decided by its verdict.
+-- A request is decided by its verdict, and its verdict by the parts of its checks.
 -- Assumes nothing.
-use mathlib.Core.Path.{_≡_, sym, _∙_, ap}
-use mathlib.Core.List.{List}
-use Prim.Native.Nat.{ℕ}
-use Rattle.checks.specs.Answers.{stopAs}
-use Rattle.checks.specs.declared.answer.Refusal.{Refusal}
-use Rattle.machine.specs.Operations.{nothing}
-use Rattle.machine.specs.Parts as parts
+use mathlib.Core.Path.{_≡_, refl, sym, _∙_, ap}
+use mathlib.Core.Bool.{Bool, true, false}
+use mathlib.Core.List.{List, [], _∷_, _++_, append-assoc}
+use Prim.Native.Nat.{ℕ, _≤_}
+use borrow.Author.Tests.{le-leb}
+use Rattle.checks.specs.Holds.{requestHolds}
+use Rattle.checks.specs.Refusals.{stopAs}
+use Rattle.checks.specs.declared.refusal.Refusal as code
+use Rattle.checks.proofs.VerdictLaws.{all-hold, all-pass, all-stop, all-true, andThen, first-passes, first-stops, parts-pass, verdict-append}
+use Rattle.machine.specs.Operations.{book, grant, nothing}
+use Rattle.machine.specs.Parts.{spent, State}
 use Rattle.machine.specs.Requests.{Request}
-use Rattle.machine.specs.Steps.{decide, pass, settle, Verdict, stop}
-use Rattle.rulings.specs.Rulings.{checkedAs, decided, effectOn, granting, handed, refusing, ruled, Ruling, issuerAs, verdictOn, grantedEffect}
-use Rattle.machine.proofs.Decided.{Passed, passed}
-use Rattle.machine.specs.Stops.{checks}
-use Rattle.rulings.specs.declared.answer.Checked.{Checked}
-use Rattle.rulings.specs.declared.answer.Checked.the-variants.{Pass, Stop}
-use Rattle.rulings.specs.declared.answer.Outcome.{Outcome}
-use Rattle.rulings.specs.declared.issuer.Issuer.{Issuer}
+use Rattle.machine.specs.Steps.{decide, pass, settle, stop, Verdict, verdict}
+use Rattle.machine.specs.Stops.{atRequest, Check, checks, needAll, noncesLeft, Places, places, Refusal, sizes}
+use Rattle.machine.proofs.Decided.{AllTrue, needed, Passed, passed, passed-split}
+use Rattle.table.specs.States.{stateAs}
+use Rattle.table.specs.declared.state.StateWords.{StateWords}
+use Rattle.rulings.specs.Rulings.{checkedAs, effectOn, firstOn, grantedEffect, granting, handed, refusing, restOn, ruled, Ruling, rulingOn, tokensOn, verdictOn}
+use Rattle.rulings.specs.declared.reply.Checked.{Checked}
+use Rattle.rulings.specs.declared.reply.Checked.the-variants.{Pass, Stop}
+use Rattle.rulings.specs.declared.reply.Outcome.{Outcome}
 
--- the verdict, where the code's checks come to r, of which k is a case
-module _ (m : ℕ) (s : parts.State) (t : List ℕ) (q : Request) (b : List ℕ) (r : Checked) (is : checkedAs r ≡ verdictOn m s t q b) where
-  pub verdict-stop : (why : Refusal) → r ≡ Stop why → verdictOn m s t q b ≡ stopAs why
-  verdict-stop why h = sym is ∙ ap checkedAs h
+-- ---- the verdict on a request, part by part
 
-  pub verdict-pass : r ≡ Pass → verdictOn m s t q b ≡ pass
-  verdict-pass h = sym is ∙ ap checkedAs h
+module _ (m : ℕ) (s : State) (t : List ℕ) (q : Request) (b : List ℕ) where
+  abbrev p : Places
+  p = places m s t q b
 
-pub by-verdict : (m : ℕ) (s : parts.State) (t : List ℕ) (q : Request) (b : List ℕ) (v : Verdict) → verdictOn m s t q b ≡ v → decided m s t q b ≡ ruled (settle v m s t q b)
-unfolding decided decide verdictOn
-by-verdict m s t q b v h = ap (λ (v : Verdict). ruled (settle v m s t q b)) h
+  abbrev facts : List Bool
+  facts = sizes m t ++ p .request
 
-pub decided-stop : (m : ℕ) (s : Issuer) (t : List ℕ) (q : Request) (b : List ℕ) (why : Refusal) (r : Outcome) → r ≡ refusing s why → verdictOn m (issuerAs s) t q b ≡ stopAs why
-    → handed r t ≡ decided m (issuerAs s) t q b
-decided-stop m s t q b why r e h = ap (λ (r : Outcome). handed r t) e ∙ sym (by-verdict m (issuerAs s) t q b (stopAs why) h)
+  abbrev left : List Check
+  left = p .rest ++ (noncesLeft s t (grant m t q b) ∷ [])
 
-pub decided-pass : (m : ℕ) (s : parts.State) (t : List ℕ) (q : Request) (b : List ℕ) (x : Ruling) → x ≡ granting m s t q b → verdictOn m s t q b ≡ pass → x ≡ decided m s t q b
-unfolding granting
-decided-pass m s t q b x e h = e ∙ sym (by-verdict m s t q b pass h)
+  -- place 1 stops it
+  pub request-stops : requestHolds m s t q b ≡ false → verdictOn m s t q b ≡ stop atRequest
+  unfolding verdictOn requestHolds
+  request-stops h = first-stops (needAll atRequest facts) (p .tokens ++ left) (all-stop atRequest facts h)
 
--- the effect of a request that is refused, and of one that is granted
-pub effect-stop : (m : ℕ) (s : parts.State) (t : List ℕ) (q : Request) (b : List ℕ) (r p : ℕ) → verdictOn m s t q b ≡ stop r p → effectOn m s t q b ≡ nothing
-unfolding effectOn decide verdictOn
-effect-stop m s t q b r p h = ap (λ (v : Verdict). settle v m s t q b .effect) h
+  module _ (ok : requestHolds m s t q b ≡ true) where
+    after : verdictOn m s t q b ≡ verdict (p .tokens ++ left)
+    unfolding verdictOn requestHolds
+    after = first-passes (needAll atRequest facts) (p .tokens ++ left) (all-pass atRequest facts ok)
 
-pub effect-pass : (m : ℕ) (s : parts.State) (t : List ℕ) (q : Request) (b : List ℕ) → verdictOn m s t q b ≡ pass → effectOn m s t q b ≡ grantedEffect m s t q b
-unfolding effectOn decide verdictOn grantedEffect
-effect-pass m s t q b h = ap (λ (v : Verdict). settle v m s t q b .effect) h
+    -- a token stops it
+    pub token-stops : {r : Refusal} → tokensOn m s t q b ≡ stop r → verdictOn m s t q b ≡ stop r
+    unfolding tokensOn
+    token-stops h = after ∙ first-stops (p .tokens) left h
 
--- a request that passes has every check hold
-pub passed-on : (m : ℕ) (s : parts.State) (t : List ℕ) (q : Request) (b : List ℕ) → verdictOn m s t q b ≡ pass → Passed (checks m s t q b)
-unfolding verdictOn
-passed-on m s t q b h = passed (checks m s t q b) h
+    -- or the rest decides
+    pub token-passes : tokensOn m s t q b ≡ pass → verdictOn m s t q b ≡ restOn m s t q b
+    unfolding tokensOn restOn
+    token-passes h = after ∙ first-passes (p .tokens) left h
+
+  -- places 1 to 5 at once
+  in-order : verdictOn m s t q b ≡ verdict ((needAll atRequest facts ++ p .tokens) ++ left)
+  unfolding verdictOn
+  in-order = ap verdict (sym (append-assoc (needAll atRequest facts) (p .tokens) left))
+
+  pub first-stop : {r : Refusal} → firstOn m s t q b ≡ stop r → verdictOn m s t q b ≡ stop r
+  unfolding firstOn
+  first-stop h = in-order ∙ first-stops (needAll atRequest facts ++ p .tokens) left h
+
+  pub first-pass : firstOn m s t q b ≡ pass → verdictOn m s t q b ≡ restOn m s t q b
+  unfolding firstOn restOn
+  first-pass h = in-order ∙ first-passes (needAll atRequest facts ++ p .tokens) left h
+
+  pub first-request : firstOn m s t q b ≡ pass → requestHolds m s t q b ≡ true
+  unfolding firstOn requestHolds
+  first-request h = all-hold facts (needed atRequest facts (passed (needAll atRequest facts) (parts-pass (needAll atRequest facts) (p .tokens) h .0)))
+
+  pub request-true : requestHolds m s t q b ≡ true → AllTrue (sizes m t ++ p .request)
+  unfolding requestHolds
+  request-true h = all-true atRequest facts h
+
+  -- one whose writes leave the next nonce is not stopped by place 11
+  pub rest-alone : book s t (grant m t q b) .state .next ≡ s .next → s .next ≤ spent → restOn m s t q b ≡ verdict (p .rest)
+  unfolding restOn
+  rest-alone e h = verdict-append (p .rest) (noncesLeft s t (grant m t q b) ∷ []) ∙ rw (e, le-leb (s .next) spent h) (same (verdict (p .rest)))
+    where
+      same : (v : Verdict) → andThen v pass ≡ v
+      same pass = refl
+      same (stop r) = refl
+
+  -- one that passes has every check hold
+  pub passed-on : verdictOn m s t q b ≡ pass → Passed (checks m s t q b)
+  unfolding verdictOn
+  passed-on h = passed (checks m s t q b) h
+
+  pub pass-true : verdictOn m s t q b ≡ pass → AllTrue (sizes m t ++ p .request)
+  pass-true h = needed atRequest facts (passed-split (needAll atRequest facts) (p .tokens ++ left) (passed-on h) .0)
+
+  pub tokens-passed : verdictOn m s t q b ≡ pass → tokensOn m s t q b ≡ pass
+  unfolding verdictOn tokensOn
+  tokens-passed h = parts-pass (p .tokens) left (parts-pass (needAll atRequest facts) (p .tokens ++ left) h .1) .0
+
+  -- ---- what the code's checks come to
+
+  module _ (r : Checked) (is : checkedAs r ≡ verdictOn m s t q b) where
+    pub verdict-stop : (why : code.Refusal) → r ≡ Stop why → verdictOn m s t q b ≡ stopAs why
+    verdict-stop why h = sym is ∙ ap checkedAs h
+
+    pub verdict-pass : r ≡ Pass → verdictOn m s t q b ≡ pass
+    verdict-pass h = sym is ∙ ap checkedAs h
+
+  -- ---- the decision
+
+  by-verdict : (v : Verdict) → verdictOn m s t q b ≡ v → rulingOn m s t q b ≡ ruled (settle v s t (grant m t q b))
+  unfolding rulingOn decide verdictOn
+  by-verdict v h = ap (λ (v : Verdict). ruled (settle v s t (grant m t q b))) h
+
+  pub decided-pass : (x : Ruling) → x ≡ granting m s t q b → verdictOn m s t q b ≡ pass → x ≡ rulingOn m s t q b
+  unfolding granting
+  decided-pass x e h = e ∙ sym (by-verdict pass h)
+
+  -- the effect of a request that is refused, and of one that is granted
+  pub effect-stop : {r : Refusal} → verdictOn m s t q b ≡ stop r → effectOn m s t q b ≡ nothing
+  unfolding effectOn decide verdictOn
+  effect-stop h = ap (λ (v : Verdict). settle v s t (grant m t q b) .effect) h
+
+  pub effect-pass : verdictOn m s t q b ≡ pass → effectOn m s t q b ≡ grantedEffect m t q b
+  unfolding effectOn decide verdictOn grantedEffect
+  effect-pass h = ap (λ (v : Verdict). settle v s t (grant m t q b) .effect) h
+
+pub decided-stop : (m : ℕ) (s : StateWords) (t : List ℕ) (q : Request) (b : List ℕ) (why : code.Refusal) (r : Outcome) → r ≡ refusing s why → verdictOn m (stateAs s) t q b ≡ stopAs why
+    → handed r t ≡ rulingOn m (stateAs s) t q b
+decided-stop m s t q b why r e h = ap (λ (r : Outcome). handed r t) e ∙ sym (by-verdict m (stateAs s) t q b (stopAs why) h)

@@ -2,34 +2,35 @@
 -- Assumes nothing.
 use mathlib.Core.Path.{_≡_}
 use mathlib.Core.List.{List, [], _∷_}
-use Prim.Native.Nat.{ℕ, _/_, _≤_, _<_}
+use Prim.Native.Nat.{ℕ, _+_, _/_, _≤_, _<_}
+use lib.Dec.{leb}
 use lib.ListN.{length}
-use Rattle.checks.specs.Answers.{stopAs}
+use Rattle.checks.specs.Refusals.{stopAs}
 use Rattle.machine.specs.Issuing.{newNumber}
-use Rattle.machine.specs.Parts as parts
+use Rattle.machine.specs.Parts.{spent, State}
 use Rattle.machine.specs.Requests.{Request}
 use Rattle.machine.specs.Steps.{pass, Verdict, verdict}
-use Rattle.machine.specs.Stops.{noncesLeft, numberLeft}
+use Rattle.machine.specs.Stops.{atNonces, need, numberLeft}
 use Rattle.rulings.specs.Rulings.{verdictOn}
 use Rattle.rulings.specs.declared.allot.Allotted.{Allotted}
 use Rattle.rulings.specs.declared.allot.Allotted.the-variants.{Number, Stop}
 
--- what holds of the table and the state where the settings do
-pub record Settled (t : List ℕ) (last next : ℕ) : Type 0 where
+-- what holds of the state and the table where the sizes and settings do
+pub record Limits (s : State) (t : List ℕ) : Type 0 where
   pub least : 64 ≤ length t
   pub most : length t ≤ 32768
-  pub inside : last < length t / 32
-  pub left : next ≤ parts.spent
+  pub inside : s .last < length t / 32
+  pub left : s .next ≤ spent
 
 -- the checks came to the verdict v; one that passes has the new number
-abbrev pub Allots : parts.State → List ℕ → Allotted → Verdict → Type 0
+abbrev pub Allots : State → List ℕ → Allotted → Verdict → Type 0
 Allots s t (Stop why) v = v ≡ stopAs why
 Allots s t (Number n) v = (v ≡ pass) × (n ≡ newNumber s t)
 
 -- places 10 and 11, where so many nonces are wanted
-unfoldable pub allotVerdict : parts.State → List ℕ → (nonces : ℕ) → Verdict
-allotVerdict s t k = verdict (numberLeft s t ∷ noncesLeft s k ∷ [])
+unfoldable pub allotVerdict : State → List ℕ → (nonces : ℕ) → Verdict
+allotVerdict s t k = verdict (numberLeft s t ∷ need atNonces (leb (s .next + k) spent) ∷ [])
 
 -- the request passes, and n is the new number
-abbrev pub allotted : ℕ → parts.State → List ℕ → Request → ℕ → Type 0
+abbrev pub allotted : ℕ → State → List ℕ → Request → ℕ → Type 0
 allotted m s t q n = Allots s t (Number n) (verdictOn m s t q [])

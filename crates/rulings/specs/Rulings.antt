@@ -1,67 +1,94 @@
--- What an operation hands back, in the machine's terms: 01's numbers and values for each case of an answer.
+-- What an operation hands back, in the machine's terms.
 -- Assumes nothing.
-use mathlib.Core.List.{List}
+use mathlib.Core.List.{List, [], _∷_, _++_}
 use Prim.Native.Nat.{ℕ}
-use Rattle.checks.specs.Answers.{refusalNumber, refusalPlace, stopAs}
-use Rattle.checks.specs.declared.answer.Refusal.{Refusal}
-use Rattle.machine.specs.Operations.{Decision, Effect, grant, granted, Reply}
-use Rattle.machine.specs.Parts as parts
+use Rattle.checks.specs.Refusals.{refusalAs, stopAs}
+use Rattle.checks.specs.declared.refusal.Refusal.{Refusal}
+use Rattle.machine.specs.Operations as machine
+use Rattle.machine.specs.Operations.{carried, Decision, Effect, grant, granted}
+use Rattle.machine.specs.Parts.{State}
 use Rattle.machine.specs.Requests.{Request}
-use Rattle.machine.specs.Steps.{decide, pass, Verdict, verdict}
-use Rattle.machine.specs.Stops.{checks}
-use Rattle.rulings.specs.declared.answer.Answer.{Answer}
-use Rattle.rulings.specs.declared.answer.Answer.the-variants.{Granted, Refused}
-use Rattle.rulings.specs.declared.answer.Checked.{Checked}
-use Rattle.rulings.specs.declared.answer.Checked.the-variants.{Pass, Stop}
-use Rattle.rulings.specs.declared.answer.Outcome.{Outcome}
-use Rattle.rulings.specs.declared.issuer.Issuer.{Issuer}
+use Rattle.machine.specs.Steps.{decide, pass, turnedAway, Verdict, verdict}
+use Rattle.machine.specs.Stops.{atRequest, checks, needAll, noncesLeft, places, sizes}
+use Rattle.table.specs.States.{stateAs}
+use Rattle.table.specs.declared.state.StateWords.{StateWords}
+use Rattle.rulings.specs.declared.reply.Checked.{Checked}
+use Rattle.rulings.specs.declared.reply.Checked.the-variants.{Pass, Stop}
+use Rattle.rulings.specs.declared.reply.Outcome.{Outcome}
+use Rattle.rulings.specs.declared.reply.Reply.{Reply}
+use Rattle.rulings.specs.declared.reply.Reply.the-variants.{Granted, Refused}
+use Rattle.rulings.specs.declared.reply.Tokens.{Tokens}
+use Rattle.rulings.specs.declared.reply.Tokens.the-variants.{None, One, Two}
 
-abbrev pub issuerAs : Issuer → parts.State
-issuerAs s = record { key0 = s .key0; key1 = s .key1; last = s .last; next = s .next }
+-- ---- replies
 
-abbrev pub replyAs : Answer → Reply
-replyAs (Granted a b d) = granted a b d
-replyAs (Refused why) = record { refusal = refusalNumber why; place = refusalPlace why; first = 0; second = 0; dropped = 0 }
+abbrev pub tokensAs : Tokens → List ℕ
+tokensAs None = []
+tokensAs (One a) = a ∷ []
+tokensAs (Two a b) = a ∷ b ∷ []
 
--- the verdict on a request, and what the code's checks come to
-unfoldable pub verdictOn : ℕ → parts.State → List ℕ → Request → List ℕ → Verdict
+abbrev pub replyAs : Reply → machine.Reply
+replyAs (Granted ks d) = granted (tokensAs ks) d
+replyAs (Refused why) = turnedAway (refusalAs why)
+
+-- a refusal, a grant that gives no token, and those that give one and two, as the code hands them back
+abbrev pub refusing : StateWords → Refusal → Outcome
+refusing s why = record { state = s; reply = Refused why }
+
+abbrev pub plainly : StateWords → ℕ → Outcome
+plainly s d = record { state = s; reply = Granted None d }
+
+abbrev pub givingOne : StateWords → ℕ → Outcome
+givingOne s a = record { state = s; reply = Granted (One a) 0 }
+
+abbrev pub givingTwo : StateWords → ℕ → ℕ → Outcome
+givingTwo s a b = record { state = s; reply = Granted (Two a b) 0 }
+
+-- ---- verdicts
+
+-- on a request; on its places 1 to 5; on its tokens, places 2 to 5; and on what is left then, places 6 to 11
+unfoldable pub verdictOn : ℕ → State → List ℕ → Request → List ℕ → Verdict
 verdictOn m s t q b = verdict (checks m s t q b)
 
+unfoldable pub firstOn : ℕ → State → List ℕ → Request → List ℕ → Verdict
+firstOn m s t q b = let p = places m s t q b in verdict (needAll atRequest (sizes m t ++ p .request) ++ p .tokens)
+
+unfoldable pub tokensOn : ℕ → State → List ℕ → Request → List ℕ → Verdict
+tokensOn m s t q b = verdict (places m s t q b .tokens)
+
+unfoldable pub restOn : ℕ → State → List ℕ → Request → List ℕ → Verdict
+restOn m s t q b = verdict (places m s t q b .rest ++ (noncesLeft s t (grant m t q b) ∷ []))
+
+-- what the code's checks come to
 abbrev pub checkedAs : Checked → Verdict
 checkedAs (Stop why) = stopAs why
 checkedAs Pass = pass
 
+-- ---- rulings
+
 -- what a decision hands back at once: the state, the table and the reply
 pub record Ruling : Type 0 where
-  pub state : parts.State
+  pub state : State
   pub table : List ℕ
-  pub reply : Reply
+  pub reply : machine.Reply
 
 abbrev pub ruled : Decision → Ruling
 ruled d = record { state = d .state; table = d .table; reply = d .reply }
 
-unfoldable pub granting : ℕ → parts.State → List ℕ → Request → List ℕ → Ruling
-granting m s t q b = ruled (grant m s t q b)
+-- of a grant, and of a request
+unfoldable pub granting : ℕ → State → List ℕ → Request → List ℕ → Ruling
+granting m s t q b = ruled (carried s t (grant m t q b))
 
-unfoldable pub decided : ℕ → parts.State → List ℕ → Request → List ℕ → Ruling
-decided m s t q b = ruled (decide m s t q b)
+unfoldable pub rulingOn : ℕ → State → List ℕ → Request → List ℕ → Ruling
+rulingOn m s t q b = ruled (decide m s t q b)
 
 -- what a grant, and a decision, do to memory and buffer
-unfoldable pub grantedEffect : ℕ → parts.State → List ℕ → Request → List ℕ → Effect
-grantedEffect m s t q b = grant m s t q b .effect
+unfoldable pub grantedEffect : ℕ → List ℕ → Request → List ℕ → Effect
+grantedEffect m t q b = grant m t q b .effect
 
-unfoldable pub effectOn : ℕ → parts.State → List ℕ → Request → List ℕ → Effect
+unfoldable pub effectOn : ℕ → State → List ℕ → Request → List ℕ → Effect
 effectOn m s t q b = decide m s t q b .effect
 
+-- what the code hands back, with the table that it leaves
 abbrev pub handed : Outcome → List ℕ → Ruling
-handed r t = record { state = issuerAs (r .issuer); table = t; reply = replyAs (r .answer) }
-
--- a refusal, a grant that gives no token, and one that gives tokens, as the code hands them back
-abbrev pub refusing : Issuer → Refusal → Outcome
-refusing s why = record { issuer = s; answer = Refused why }
-
-abbrev pub plainly : Issuer → ℕ → Outcome
-plainly s d = record { issuer = s; answer = Granted 0 0 d }
-
-abbrev pub giving : Issuer → ℕ → ℕ → Outcome
-giving s a b = record { issuer = s; answer = Granted a b 0 }
+handed r t = record { state = stateAs (r .state); table = t; reply = replyAs (r .reply) }

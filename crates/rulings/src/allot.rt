@@ -1,10 +1,10 @@
 // A new number, and nonces for what is issued: places 10 and 11.
-use crate::issuer::Issuer;
-use checks::answer::Refusal;
+use checks::refusal::Refusal;
 use table::numbers::new_number;
+use table::state::StateWords;
 ghost use Prim.Native.Nat.{_≤_};
-ghost use Rattle.rulings.specs.Allotments.{Allots, allotVerdict, Settled};
-ghost use Rattle.rulings.specs.Rulings.{issuerAs};
+ghost use Rattle.table.specs.States.{stateAs};
+ghost use Rattle.rulings.specs.Allotments.{Allots, allotVerdict, Limits};
 
 // What the checks of a request come to that issues under a new number.
 pub enum Allotted {
@@ -12,11 +12,11 @@ pub enum Allotted {
     Number(usize),
 }
 
-pub fn allot(s: Issuer, table: &[u8], nonces: u64) -> Allotted
-    requires { ⌜ Settled (now table) (s .last) (s .next) × (nonces ≤ 2) ⌝ }
-    ensures { λ r. ⌜ Allots (issuerAs s) (now (table .entry)) r (allotVerdict (issuerAs s) (now (table .entry)) nonces) ⌝ }
+pub fn allot(s: StateWords, table: &[u8], nonces: u64) -> Allotted
+    requires { ⌜ Limits (stateAs s) (now table) × (nonces ≤ 2) ⌝ }
+    ensures { λ r. ⌜ Allots (stateAs s) (now (table .entry)) r (allotVerdict (stateAs s) (now (table .entry)) nonces) ⌝ }
 {
-    let new = new_number(table, s.last as usize);
+    let new = new_number(s, table);
     if new == 0 {
         return Allotted::Stop(Refusal::Numbers);
     }

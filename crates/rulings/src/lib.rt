@@ -1,6 +1,3 @@
-// What the operations share: the issuer, what is handed back, new numbers, issues.
+// What the operations share: what is handed back, and a new number with nonces for what is issued.
 pub mod allot;
-pub mod answer;
-pub mod issue;
-pub mod issuer;
-pub mod token;
+pub mod reply;

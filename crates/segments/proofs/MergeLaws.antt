@@ -1,132 +1,108 @@
--- Merge: the ways out of its checks, and what they leave.
+-- Merge: the ways out of its checks, and what it leaves.
 -- Assumes nothing.
-use mathlib.Core.Path.{_≡_, _∙_, ap, subst}
-use mathlib.Core.Bool.{Bool, true, false, not, _&&_}
-use mathlib.Core.List.{List, [], _∷_, _++_}
+use mathlib.Core.Path.{_≡_, ap, _∙_}
+use mathlib.Core.Bool.{true, false, not, _&&_, cond}
+use mathlib.Core.List.{List, []}
 use Prim.Native.Nat.{ℕ, _+_, _*_, _/_, _^_, _≤_, _<_}
 use native.Mathlib.Omega.{arith}
-use lib.Bits.{and-le-l, bitAnd}
+use lib.Bits.{and-le-l}
 use lib.Dec.{eqb, leb, ltb}
 use lib.ListN.{length}
 use borrow.Author.Tests.{eq-eqb, le-leb, leb-true, lt-leb, ltb-true, ne-eqb}
-use Rattle.layout.specs.Entry.{Fits, free}
 use Rattle.tokens.specs.Token.{named}
+use Rattle.layout.specs.Entry.{dated}
 use Rattle.layout.specs.declared.entry.Entry.{Entry}
 use Rattle.tokens.specs.declared.token.Named.{Named}
 use Rattle.layout.proofs.EntryLaws.{direct-fits}
-use Rattle.checks.specs.Answers.{reachVerdict}
-use Rattle.checks.specs.Holds.{settingsHold}
-use Rattle.checks.proofs.ReachLaws.{reached-inside, size-in}
-use Rattle.checks.proofs.VerdictLaws.{andThen, first-stops, passes, stops, token-passes, token-stops, verdict-append}
-use Rattle.machine.proofs.Decided.{Passed, passed}
-use Rattle.machine.specs.Issuing.{issue}
-use Rattle.machine.specs.Operations.{namedEntry, numberOf, tokenOf}
-use Rattle.machine.specs.Parts as parts
-use Rattle.machine.specs.Parts.{at, mostMemory, put, size, spent}
+use Rattle.checks.specs.Holds.{requestHolds, settingsHold}
+use Rattle.checks.specs.Reached.{reachVerdict}
+use Rattle.checks.proofs.ReachLaws.{reach-in, reached-inside, size-in}
+use Rattle.checks.proofs.VerdictLaws.{first-passes, first-stops, parts-pass}
+use Rattle.machine.specs.Operations.{mergedOf, namedEntry, numberOf}
+use Rattle.machine.specs.Parts.{at, mostMemory, size, spent, State}
 use Rattle.machine.specs.Requests.{merge}
-use Rattle.machine.specs.Steps.{pass, stop, Verdict, verdict}
-use Rattle.machine.specs.Stops.{Check, checks, encodingFits, noOffset, reachable, settings, taskFits}
-use Rattle.segments.specs.Neighbours.{bothVerdict, bounds, Joining, joining, kinds, merging, neighbourChecks, neighbourVerdict, nonces, Pairs, standings}
-use Rattle.segments.specs.declared.merge.Pair.{Pair}
-use Rattle.rulings.specs.Rulings.{giving, granting, handed, issuerAs, verdictOn}
-use Rattle.rulings.specs.declared.answer.Outcome.{Outcome}
-use Rattle.rulings.specs.declared.issuer.Issuer.{Issuer}
+use Rattle.machine.specs.Steps.{pass, stop}
+use Rattle.machine.specs.Stops.{atBounds, atKind, atNonces, atStanding, checks, reachable, Refusal}
+use Rattle.machine.specs.Writes.{opened, reissue, vacated, write}
+use Rattle.machine.proofs.Decided.{Passed}
+use Rattle.machine.proofs.TableLaws.{length-put}
+use Rattle.table.specs.Left.{Issues, issuedAs, leftBy}
+use Rattle.table.specs.States.{stateAs}
+use Rattle.table.specs.declared.state.StateWords.{StateWords}
+use Rattle.table.specs.declared.writes.Issued.{Issued}
+use Rattle.table.proofs.FitLaws.{at-fits}
+use Rattle.rulings.specs.Rulings.{givingOne, granting, handed, restOn, tokensOn, verdictOn}
+use Rattle.rulings.specs.declared.reply.Outcome.{Outcome}
 use Rattle.rulings.proofs.RulingLaws.{passed-on}
+use Rattle.segments.proofs.SegmentLaws.{both-hold, four-hold, leaving}
 
--- ---- both tokens
-
-module _ (m : ℕ) (t : List ℕ) (j k u : ℕ) where
-  pub both-first : (r p : ℕ) → reachVerdict m t j u ≡ stop r p → bothVerdict m t j k u ≡ stop r p
-  unfolding bothVerdict reachVerdict
-  both-first r p h = verdict-append (reachable m t j u) (reachable m t k u) ∙ ap (λ v. andThen v (verdict (reachable m t k u))) h
-
-  pub both-second : reachVerdict m t j u ≡ pass → bothVerdict m t j k u ≡ reachVerdict m t k u
-  unfolding bothVerdict reachVerdict
-  both-second h = verdict-append (reachable m t j u) (reachable m t k u) ∙ ap (λ v. andThen v (verdict (reachable m t k u))) h
-
-  pub both-in : bothVerdict m t j k u ≡ pass → (32 * numberOf j + 32 ≤ length t) × (32 * numberOf k + 32 ≤ length t)
-  unfolding bothVerdict
-  both-in h =
-      let all = passed (reachable m t j u ++ reachable m t k u) h in
-      (size-in t (numberOf j) (search), size-in t (numberOf k) (search))
-
--- ---- the two entries
-
-module _ (d e : Entry) (ν : ℕ) where
-  pub neighbour-kind : (eqb (d .kind) 1 && eqb (e .kind) 1) ≡ false → neighbourVerdict d e ν ≡ stop 6 0
-  unfolding neighbourVerdict
-  neighbour-kind h = stops 6 (kinds d e) (bounds d e ++ (standings d e ++ nonces ν)) tt h
-
-  module _ (direct : (eqb (d .kind) 1 && eqb (e .kind) 1) ≡ true) where
-    placed : neighbourVerdict d e ν ≡ verdict (bounds d e ++ (standings d e ++ nonces ν))
-    unfolding neighbourVerdict
-    placed = passes 6 (kinds d e) (bounds d e ++ (standings d e ++ nonces ν)) tt direct
-
-    pub neighbour-bounds : (e .base ≡ d .base + d .length → ⊥) → neighbourVerdict d e ν ≡ stop 8 0
-    neighbour-bounds h = placed ∙ rw (ne-eqb (e .base) (d .base + d .length) h)
-
-    module _ (next : e .base ≡ d .base + d .length) where
-      standing : neighbourVerdict d e ν ≡ verdict (standings d e ++ nonces ν)
-      standing = placed ∙ passes 8 (bounds d e) (standings d e ++ nonces ν) tt (eq-eqb (e .base) (d .base + d .length) next)
-
-      pub neighbour-standing : (not (d .locked) && not (e .locked) && eqb (d .count) 0 && eqb (e .count) 0) ≡ false → neighbourVerdict d e ν ≡ stop 9 0
-      neighbour-standing h = standing ∙ stops 9 (standings d e) (nonces ν) tt h
-
-      module _ (idle : (not (d .locked) && not (e .locked) && eqb (d .count) 0 && eqb (e .count) 0) ≡ true) where
-        left : neighbourVerdict d e ν ≡ verdict (nonces ν)
-        left = standing ∙ passes 9 (standings d e) (nonces ν) tt idle
-
-        pub neighbour-spent : spent ≤ ν → neighbourVerdict d e ν ≡ stop 11 0
-        neighbour-spent h = left ∙ rw (lt-leb (ν + 1) spent (omega arith))
-
-        pub neighbour-pass : ν < spent → neighbourVerdict d e ν ≡ pass
-        neighbour-pass h = left ∙ rw (le-leb (ν + 1) spent (omega arith))
-
--- ---- all places
-
-module _ (m : ℕ) (s : parts.State) (t : List ℕ) (j k u c : ℕ) where
-  abbrev first : List Check
-  first = settings m s t ++ (taskFits u ∷ encodingFits c ∷ noOffset j ∷ noOffset k ∷ [])
-
-  abbrev tokens : List Check
-  tokens = reachable m t j u ++ reachable m t k u
-
-  abbrev last : List Check
-  last = neighbourChecks (namedEntry t j) (namedEntry t k) (s .next)
-
+module _ (m : ℕ) (s : State) (t : List ℕ) (j k u c : ℕ) where
   -- place 1, with the tokens read as a and b
-  module _ (a b : Named) (isFirst : a ≡ named j) (isSecond : b ≡ named k) where
-    abbrev pub mergeHolds : Bool
-    mergeHolds = settingsHold m t (s .last) (s .next) && ltb u (2 ^ 55) && leb c 3 && eqb (a .offset) 0 && eqb (b .offset) 0
+  pub merge-request : (a b : Named) → a ≡ named j → b ≡ named k
+      → (settingsHold m s t && ltb u (2 ^ 55) && leb c 3 && eqb (a .offset) 0 && eqb (b .offset) 0) ≡ requestHolds m s t (merge j k u c) []
+  unfolding settingsHold requestHolds
+  merge-request a b isFirst isSecond = rw (isFirst, isSecond)
 
-    pub merge-request : mergeHolds ≡ false → verdictOn m s t (merge j k u c) [] ≡ stop 1 0
-    unfolding verdictOn settingsHold
-    merge-request h = first-stops first tokens last tt (rw (isFirst, isSecond) at h)
+  -- ---- both tokens
 
-    -- it passes, and both tokens reach or not
-    module _ (ok : mergeHolds ≡ true) where
-      pub merge-token : (r p : ℕ) → bothVerdict m t j k u ≡ stop r p → verdictOn m s t (merge j k u c) [] ≡ stop r p
-      unfolding verdictOn settingsHold bothVerdict
-      merge-token r p h = token-stops first tokens last tt r p (rw (isFirst, isSecond) at ok) h
+  pub both-first : {r : Refusal} → reachVerdict m t j u ≡ stop r → tokensOn m s t (merge j k u c) [] ≡ stop r
+  unfolding tokensOn reachVerdict
+  both-first h = first-stops (reachable m t j u) (reachable m t k u) h
 
-      pub merge-reached : (d e : Entry) → d ≡ at t (a .number) → e ≡ at t (b .number) → bothVerdict m t j k u ≡ pass → verdictOn m s t (merge j k u c) [] ≡ neighbourVerdict d e (s .next)
-      unfolding verdictOn settingsHold bothVerdict neighbourVerdict
-      merge-reached d e d-is e-is h = token-passes first tokens last tt (rw (isFirst, isSecond) at ok) h ∙ rw (d-is, e-is, isFirst, isSecond)
+  pub both-second : reachVerdict m t j u ≡ pass → tokensOn m s t (merge j k u c) [] ≡ reachVerdict m t k u
+  unfolding tokensOn reachVerdict
+  both-second h = first-passes (reachable m t j u) (reachable m t k u) h
 
-      -- the numbers are those that the tokens name
-      pub merge-pairs : (r : Pair) (d e : Entry) → d ≡ at t (a .number) → e ≡ at t (b .number) → bothVerdict m t j k u ≡ pass → Pairs r (neighbourVerdict d e (s .next)) (a .number) (b .number)
-          → Pairs r (verdictOn m s t (merge j k u c) []) (numberOf j) (numberOf k)
-      merge-pairs r d e d-is e-is h p =
-          let v : Verdict = neighbourVerdict d e (s .next) in
-          let one : Pairs r v (numberOf j) (b .number) = subst (λ (x : Named). Pairs r v (x .number) (b .number)) isFirst p in
-          let both : Pairs r v (numberOf j) (numberOf k) = subst (λ (x : Named). Pairs r v (numberOf j) (x .number)) isSecond one in
-          rw (merge-reached d e d-is e-is h) both
+  pub both-in : tokensOn m s t (merge j k u c) [] ≡ pass → (32 * numberOf j + 32 ≤ length t) × (32 * numberOf k + 32 ≤ length t)
+  unfolding tokensOn reachVerdict
+  both-in h = let each = parts-pass (reachable m t j u) (reachable m t k u) h in (reach-in m t j u (each .0), reach-in m t k u (each .1))
 
--- ---- what a pass says, where the entries have the numbers n and p
+  -- ---- the two entries, which the tokens name as d of number n and e of number i
 
-joins : (m : ℕ) (s : parts.State) (t : List ℕ) (j k u c : ℕ) → Passed (checks m s t (merge j k u c) []) → Joining s t (numberOf j) (numberOf k) c
+  module _ (n i : ℕ) (d e : Entry) (isFirst : n ≡ numberOf j) (isSecond : i ≡ numberOf k) (first : d ≡ at t n) (second : e ≡ at t i) where
+    d-is : d ≡ namedEntry t j
+    d-is = rw isFirst at first
+
+    e-is : e ≡ namedEntry t k
+    e-is = rw isSecond at second
+
+    pub neighbour-kind : (eqb (d .kind) 1 && eqb (e .kind) 1) ≡ false → restOn m s t (merge j k u c) [] ≡ stop atKind
+    unfolding restOn
+    neighbour-kind h = rw (← d-is, ← e-is, both-hold (eqb (d .kind) 1) (eqb (e .kind) 1), h)
+
+    module _ (direct : (eqb (d .kind) 1 && eqb (e .kind) 1) ≡ true) where
+      pub neighbour-bounds : (e .base ≡ d .base + d .length → ⊥) → restOn m s t (merge j k u c) [] ≡ stop atBounds
+      unfolding restOn
+      neighbour-bounds h = rw (← d-is, ← e-is, both-hold (eqb (d .kind) 1) (eqb (e .kind) 1), direct, ne-eqb (e .base) (d .base + d .length) h)
+
+      module _ (next : e .base ≡ d .base + d .length) where
+        standing : restOn m s t (merge j k u c) [] ≡ cond (not (d .locked) && not (e .locked) && eqb (d .count) 0 && eqb (e .count) 0) (cond (leb (s .next + 1) spent) pass (stop atNonces)) (stop atStanding)
+        unfolding restOn
+        standing = rw (← d-is, ← e-is, both-hold (eqb (d .kind) 1) (eqb (e .kind) 1), direct, eq-eqb (e .base) (d .base + d .length) next) (four-hold (not (d .locked)) (not (e .locked)) (eqb (d .count) 0) (eqb (e .count) 0) _ _)
+
+        pub neighbour-standing : (not (d .locked) && not (e .locked) && eqb (d .count) 0 && eqb (e .count) 0) ≡ false → restOn m s t (merge j k u c) [] ≡ stop atStanding
+        neighbour-standing h = standing ∙ rw h
+
+        module _ (idle : (not (d .locked) && not (e .locked) && eqb (d .count) 0 && eqb (e .count) 0) ≡ true) where
+          pub neighbour-spent : spent ≤ s .next → restOn m s t (merge j k u c) [] ≡ stop atNonces
+          neighbour-spent h = standing ∙ rw (idle, lt-leb (s .next + 1) spent (omega arith))
+
+          pub neighbour-pass : s .next < spent → restOn m s t (merge j k u c) [] ≡ pass
+          neighbour-pass h = standing ∙ rw (idle, le-leb (s .next + 1) spent (omega arith))
+
+-- ---- what a pass says of the entries of numbers n and i
+
+pub record Mergeable (s : State) (t : List ℕ) (n i c : ℕ) : Type 0 where
+  pub first : 32 * n + 32 ≤ length t
+  pub second : 32 * i + 32 ≤ length t
+  pub sum : at t n .length + at t i .length < 2 ^ 32
+  -- whichever entry is freed
+  pub issues : (y : ℕ) → Issues s (vacated t y) n (mergedOf (at t n) (at t i) 0) c
+
+named-pair : (m : ℕ) (s : State) (t : List ℕ) (j k u c : ℕ) → verdictOn m s t (merge j k u c) [] ≡ pass → Mergeable s t (numberOf j) (numberOf k) c
 unfolding size
-joins m s t j k u c all =
+named-pair m s t j k u c h =
+    let all : Passed (checks m s t (merge j k u c) []) = passed-on m s t (merge j k u c) [] h in
     let i : numberOf j < length t / 32 = ltb-true _ _ (search) in
     let most : length t / 32 ≤ 1024 = leb-true _ _ (search) in
     let memory : m ≤ mostMemory = leb-true _ _ (search) in
@@ -134,31 +110,25 @@ joins m s t j k u c all =
     record {
       first = omega arith;
       second = size-in t (numberOf k) (search);
-      small = omega arith;
-      encoded = leb-true c 3 (search);
       sum = omega (arith, reached-inside m t (numberOf j) (search) (search), reached-inside m t (numberOf k) (search) (search));
-      nonce = omega arith;
+      issues = λ y. record {
+        inside = rw length-put (omega arith);
+        small = omega arith;
+        fits = direct-fits _ _ _ _ _ _ _ (omega (arith, and-le-l (namedEntry t j .permissions) (namedEntry t k .permissions), at-fits t (numberOf j) .permissions));
+        encoded = leb-true c 3 (search);
+        left = omega arith;
+      };
     }
 
-pub merge-joins : (m : ℕ) (s : parts.State) (t : List ℕ) (j k u c n p : ℕ) → n ≡ numberOf j → p ≡ numberOf k → verdictOn m s t (merge j k u c) [] ≡ pass → Joining s t n p c
-merge-joins m s t j k u c n p isFirst isSecond h = rw (isFirst, isSecond) (joins m s t j k u c (passed-on m s t (merge j k u c) [] h))
+pub mergeable : (m : ℕ) (s : State) (t : List ℕ) (j k u c n i : ℕ) → verdictOn m s t (merge j k u c) [] ≡ pass → n ≡ numberOf j → i ≡ numberOf k → Mergeable s t n i c
+mergeable m s t j k u c n i h isFirst isSecond = rw (isFirst, isSecond) (named-pair m s t j k u c h)
 
-pub joining-fits : (d e w : Entry) (ν : ℕ) → w ≡ joining d e ν → Fits d → Fits w
-joining-fits d e w ν is f =
-    let less : bitAnd (d .permissions) (e .permissions) ≤ d .permissions = and-le-l (d .permissions) (e .permissions) in
-    rw is (direct-fits _ _ _ _ _ _ _ (omega (arith, f .permissions)))
+-- ---- what is handed back, where the entries of numbers n and i are d and e
 
--- ---- what is handed back, where the entries of numbers n and p are d and e
-
-pub merges : (s : Issuer) (t : List ℕ) (n p c : ℕ) (d e whole gone : Entry) (token : ℕ) (t₁ t₂ : List ℕ) (r : Outcome)
-    → d ≡ at t n → e ≡ at t p → whole ≡ joining d e (s .next) → gone ≡ free → t₁ ≡ put t p gone
-    → (token ≡ tokenOf c n (issue (issuerAs s) n whole)) × (t₂ ≡ put t₁ n (issue (issuerAs s) n whole))
-    → r ≡ giving (record { key0 = s .key0; key1 = s .key1; last = s .last; next = s .next + 1 }) token 0
-    → handed r t₂ ≡ merging (issuerAs s) t n p c
-unfolding merging
-merges s t n p c d e whole gone token t₁ t₂ r d-is e-is over none cut given done =
-    rw (done, given .0, given .1, cut, none, over, d-is, e-is)
-
-pub merge-grants : (m : ℕ) (s : parts.State) (t : List ℕ) (j k u c n p : ℕ) → n ≡ numberOf j → p ≡ numberOf k → merging s t n p c ≡ granting m s t (merge j k u c) []
-unfolding merging granting
-merge-grants m s t j k u c n p isFirst isSecond = rw (isFirst, isSecond)
+pub merge-grants : (m : ℕ) (s : StateWords) (t : List ℕ) (j k u c n i : ℕ) (d e whole : Entry) (t₁ t₂ : List ℕ) (new : Issued) (r : Outcome)
+    → n ≡ numberOf j → i ≡ numberOf k → d ≡ at t n → e ≡ at t i → whole ≡ mergedOf d e 0 → t₁ ≡ vacated t i
+    → issuedAs new t₂ ≡ leftBy (write c (opened (stateAs s) t₁) (reissue n (dated whole))) → r ≡ givingOne (new .state) (new .token)
+    → handed r t₂ ≡ granting m (stateAs s) t (merge j k u c) []
+unfolding granting
+merge-grants m s t j k u c n i d e whole t₁ t₂ new r isFirst isSecond first second over freed left done =
+    rw done (ap leaving left ∙ rw (freed, over, first, second, isFirst, isSecond))

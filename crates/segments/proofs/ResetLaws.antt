@@ -1,49 +1,51 @@
 -- Reset: its one check, and what it leaves.
 -- Assumes nothing.
-use mathlib.Core.Path.{_≡_}
-use mathlib.Core.Bool.{true, false, _&&_}
+use mathlib.Core.Path.{_≡_, refl, ap, _∙_}
+use mathlib.Core.Bool.{true, _&&_}
 use mathlib.Core.List.{List, []}
-use Prim.Native.Nat.{ℕ, _/_, _≤_}
+use Prim.Native.Nat.{ℕ, _/_, _^_, _≤_, _<_}
 use native.Mathlib.Omega.{arith}
 use lib.Dec.{leb, ltb}
-use lib.ListN.{length, replicate}
-use borrow.Author.Tests.{leb-true}
-use Rattle.layout.specs.Entry.{direct}
-use Rattle.layout.specs.declared.entry.Entry.{Entry}
-use Rattle.checks.specs.Holds.{sizesHold}
-use Rattle.checks.proofs.VerdictLaws.{passes, stops}
-use Rattle.machine.proofs.Decided.{passed}
-use Rattle.machine.specs.Parts as parts
-use Rattle.machine.specs.Parts.{cleared, put, size, spent}
+use lib.ListN.{length}
+use borrow.Author.Tests.{le-leb, leb-true, ltb-true}
+use Rattle.checks.specs.Holds.{requestHolds, sizesHold}
+use Rattle.machine.specs.Parts.{mostMemory, size, spent, State}
 use Rattle.machine.specs.Requests.{reset}
-use Rattle.machine.specs.Steps.{pass, stop}
+use Rattle.machine.specs.Steps.{pass}
 use Rattle.machine.specs.Stops.{checks}
-use Rattle.rulings.specs.Rulings.{granting, handed, plainly, issuerAs, verdictOn}
-use Rattle.rulings.specs.declared.answer.Outcome.{Outcome}
-use Rattle.rulings.specs.declared.issuer.Issuer.{Issuer}
+use Rattle.machine.specs.Writes.{begin, opened, write}
+use Rattle.machine.proofs.Decided.{Passed}
+use Rattle.table.specs.Left.{begunAs, leftBy}
+use Rattle.table.specs.States.{stateAs}
+use Rattle.table.specs.declared.state.StateWords.{StateWords}
+use Rattle.rulings.specs.Rulings.{granting, handed, plainly, restOn, tokensOn, verdictOn}
+use Rattle.rulings.specs.declared.reply.Outcome.{Outcome}
+use Rattle.rulings.proofs.RulingLaws.{passed-on, request-true, token-passes}
+use Rattle.segments.proofs.SegmentLaws.{leaving}
 
-module _ (m : ℕ) (s : parts.State) (t : List ℕ) (k0 k1 ν : ℕ) where
-  pub reset-stop : (sizesHold m t && leb 1 ν && ltb ν spent) ≡ false → verdictOn m s t (reset k0 k1 ν) [] ≡ stop 1 0
-  unfolding verdictOn sizesHold
-  reset-stop h = stops 1 (checks m s t (reset k0 k1 ν) []) [] tt h
+module _ (m : ℕ) (s : State) (t : List ℕ) (k0 k1 ν : ℕ) where
+  pub reset-request : (sizesHold m t && leb 1 ν && ltb ν spent) ≡ requestHolds m s t (reset k0 k1 ν) []
+  unfolding sizesHold requestHolds
+  reset-request = refl
 
-  pub reset-pass : (sizesHold m t && leb 1 ν && ltb ν spent) ≡ true → verdictOn m s t (reset k0 k1 ν) [] ≡ pass
-  unfolding verdictOn sizesHold
-  reset-pass h = passes 1 (checks m s t (reset k0 k1 ν) []) [] tt h
+  pub reset-pass : requestHolds m s t (reset k0 k1 ν) [] ≡ true → verdictOn m s t (reset k0 k1 ν) [] ≡ pass
+  unfolding tokensOn restOn
+  reset-pass ok =
+      let below : ν < spent = ltb-true _ _ (request-true m s t (reset k0 k1 ν) [] ok .1 .1 .1 .1 .1 .1 .0) in
+      token-passes m s t (reset k0 k1 ν) [] ok refl ∙ rw (le-leb ν spent (omega arith))
 
   -- what a pass says
-  module _ (h : verdictOn m s t (reset k0 k1 ν) [] ≡ pass) where
-    pub reset-memory : m ≤ 16777216
-    unfolding verdictOn
-    reset-memory = leb-true _ _ (passed (checks m s t (reset k0 k1 ν) []) h .1 .0)
-
-    pub reset-table : 64 ≤ length t
-    unfolding verdictOn size
-    reset-table = let two : 2 ≤ length t / 32 = leb-true _ _ (passed (checks m s t (reset k0 k1 ν) []) h .1 .1 .1 .0) in omega arith
+  pub reset-sizes : verdictOn m s t (reset k0 k1 ν) [] ≡ pass → (32 ≤ length t) × (m < 2 ^ 32)
+  unfolding size
+  reset-sizes h =
+      let all : Passed (checks m s t (reset k0 k1 ν) []) = passed-on m s t (reset k0 k1 ν) [] h in
+      let two : 2 ≤ length t / 32 = leb-true _ _ (all .1 .1 .1 .0) in
+      let most : m ≤ mostMemory = leb-true _ _ (all .1 .0) in
+      (omega arith, omega arith)
 
 -- what is handed back
-pub reset-grants : (m : ℕ) (s s′ : Issuer) (t : List ℕ) (k0 k1 ν : ℕ) (e : Entry) (r : Outcome) (z t′ : List ℕ)
-    → s′ ≡ record { key0 = k0; key1 = k1; last = 0; next = ν } → z ≡ replicate (length t) 0 → e ≡ direct 0 m 0 7 true 0 0 → t′ ≡ put z 0 e → r ≡ plainly s′ 0
-    → handed r t′ ≡ granting m (issuerAs s) t (reset k0 k1 ν) []
-unfolding granting cleared
-reset-grants m s s′ t k0 k1 ν e r z t′ a b c d f = rw (f, d, c, b, a)
+pub reset-grants : (m : ℕ) (s s′ : StateWords) (t : List ℕ) (k0 k1 ν : ℕ) (r : Outcome) (t′ : List ℕ)
+    → begunAs s′ t′ ≡ leftBy (write 0 (opened (stateAs s) t) (begin m k0 k1 ν)) → r ≡ plainly s′ 0
+    → handed r t′ ≡ granting m (stateAs s) t (reset k0 k1 ν) []
+unfolding granting
+reset-grants m s s′ t k0 k1 ν r t′ left done = rw done (ap leaving left)

@@ -1,133 +1,118 @@
--- Revoke: the ways out of its checks, and what they leave.
+-- Revoke: the ways out of its checks, and what it leaves.
 -- Assumes nothing.
-use mathlib.Core.Path.{_≡_, _∙_, ap}
-use mathlib.Core.Bool.{Bool, true, false, _&&_}
-use mathlib.Core.List.{List, [], _∷_, _++_}
-use Prim.Native.Nat.{ℕ, _+_, _-_, _*_, _/_, _≤_, _<_}
+use mathlib.Core.Path.{_≡_, ap, _∙_}
+use mathlib.Core.Bool.{true, _&&_, cond}
+use mathlib.Core.List.{List, [], _++_}
+use Prim.Native.Nat.{ℕ, _+_, _-_, _/_, _≤_, _<_}
 use native.Mathlib.Omega.{arith}
-use lib.Dec.{eqb, leb, ltb}
+use lib.Dec.{eqb, leb}
 use lib.ListN.{length, replicate}
 use lib.Seq.{sets}
-use borrow.Author.Tests.{eq-eqb, le-ltb, leb-true, lt-ltb, ltb-true, ne-eqb}
-use Rattle.layout.specs.Entry.{direct}
-use Rattle.layout.specs.Tag.{tagOf}
-use Rattle.tokens.specs.Token.{named, token}
+use borrow.Author.Tests.{eq-eqb, le-leb, leb-true, lt-leb, ltb-true, ne-eqb}
+use Rattle.layout.specs.Entry.{dated}
+use Rattle.tokens.specs.Token.{named}
 use Rattle.layout.specs.declared.entry.Entry.{Entry}
 use Rattle.tokens.specs.declared.token.Named.{Named}
-use Rattle.checks.specs.Answers.{liveVerdict}
-use Rattle.checks.specs.Holds.{settingsHold}
+use Rattle.layout.proofs.EntryLaws.{direct-fits}
+use Rattle.checks.specs.Holds.{requestHolds, settingsHold}
+use Rattle.checks.specs.Reached.{liveVerdict}
 use Rattle.checks.proofs.ReachLaws.{reached-inside}
-use Rattle.checks.proofs.VerdictLaws.{all-passed, first-stops, token-passes, token-stops}
-use Rattle.machine.proofs.Decided.{Passed}
-use Rattle.machine.specs.Issuing.{passOver}
-use Rattle.machine.specs.Operations.{fresh, numberOf, revokeNonce}
-use Rattle.machine.specs.Parts as parts
-use Rattle.machine.specs.Parts.{at, put, size, spent}
+use Rattle.machine.specs.Issuing.{issue, passOver}
+use Rattle.machine.specs.Operations.{fresh, namedEntry, numberOf}
+use Rattle.machine.specs.Parts.{at, size, spent, State}
 use Rattle.machine.specs.Requests.{revoke}
 use Rattle.machine.specs.Steps.{memoryAfter, pass, stop, Verdict}
-use Rattle.machine.specs.Stops.{Check, checks, encodingFits, isDirect, live, need, noOffset, settings}
-use Rattle.table.specs.Keys.{keyed}
-use Rattle.table.proofs.SearchLaws.{pass-keyed}
-use Rattle.segments.specs.Renewals.{renewNonce, Renews, renewTag, renewVerdict}
-use Rattle.rulings.specs.Rulings.{giving, grantedEffect, granting, handed, issuerAs, verdictOn}
-use Rattle.rulings.specs.declared.answer.Outcome.{Outcome}
-use Rattle.rulings.specs.declared.issuer.Issuer.{Issuer}
-use Rattle.segments.specs.declared.revoke.Renewal.{Renewal}
-use Rattle.rulings.proofs.RulingLaws.{passed-on}
+use Rattle.machine.specs.Stops.{atKind, atNonces, checks, places, sizes}
+use Rattle.machine.specs.Writes.{opened, otherNonce, renew, write}
+use Rattle.machine.proofs.Decided.{AllTrue, Passed}
+use Rattle.machine.proofs.WriteLaws.{other-least}
+use Rattle.table.specs.Left.{Issues, issuedAs, leftBy, Renews}
+use Rattle.table.specs.States.{stateAs}
+use Rattle.table.specs.declared.issue.Renewed.{Renewed}
+use Rattle.table.specs.declared.state.StateWords.{StateWords}
+use Rattle.table.specs.declared.writes.Issued.{Issued}
+use Rattle.rulings.specs.Rulings.{givingOne, grantedEffect, granting, handed, restOn, tokensOn, verdictOn}
+use Rattle.rulings.specs.declared.reply.Outcome.{Outcome}
+use Rattle.rulings.proofs.AllotLaws.{limits}
+use Rattle.rulings.proofs.RulingLaws.{passed-on, request-true}
+use Rattle.segments.proofs.SegmentLaws.{leaving}
 
--- ---- places 6 and 11
+-- ---- places 6 and 11, where the token k names e by the number n
 
-module _ (s : parts.State) (n : ℕ) (e : Entry) where
-  pub renew-kind : (e .kind ≡ 1 → ⊥) → renewVerdict s n e ≡ stop 6 0
-  unfolding renewVerdict
-  renew-kind h = rw (ne-eqb (e .kind) 1 h)
+module _ (m : ℕ) (s : State) (t : List ℕ) (k c n : ℕ) (e : Entry) (is : n ≡ numberOf k) (there : e ≡ at t n) where
+  here : e ≡ namedEntry t k
+  here = rw is at there
 
-  -- the nonce as the code finds it
-  module _ (x : ℕ) (found : x ≡ passOver (spent - s .next) (keyed (s .key0) (s .key1)) n (fresh e) (e .tag) (s .next)) where
-    pub renew-nonce : x ≡ renewNonce s n e
-    unfolding renewNonce
-    renew-nonce = found ∙ pass-keyed (spent - s .next) s n (fresh e) (e .tag) (s .next)
+  pub seek-kind : (e .kind ≡ 1 → ⊥) → restOn m s t (revoke k c) [] ≡ stop atKind
+  unfolding restOn
+  seek-kind h = rw (← here, ne-eqb (e .kind) 1 h)
 
-    pub renew-tag : (g : ℕ) → g ≡ tagOf (s .key0) (s .key1) (fresh e x) n → g ≡ renewTag s n e
-    unfolding renewTag
-    renew-tag g h = h ∙ ap (λ (ν : ℕ). tagOf (s .key0) (s .key1) (fresh e ν) n) renew-nonce
+  -- with the nonce and the tag as the code finds them
+  module _ (one : e .kind ≡ 1) (f : Entry) (anew : f ≡ fresh e 0) (new : Renewed) (found : new .nonce ≡ passOver (spent - s .next) s n (dated f) (e .tag) (s .next)) where
+    other : new .nonce ≡ otherNonce s t (numberOf k) (fresh (namedEntry t k))
+    other = found ∙ rw (anew, here, is)
 
-    pub renew-spent : e .kind ≡ 1 → spent ≤ x → renewVerdict s n e ≡ stop 11 0
-    unfolding renewVerdict
-    renew-spent d h = rw (eq-eqb (e .kind) 1 d, ← renew-nonce, le-ltb x spent h)
+    left : restOn m s t (revoke k c) [] ≡ cond (leb (new .nonce + 1) spent) pass (stop atNonces)
+    unfolding restOn
+    left = rw (← other, ← here, eq-eqb (e .kind) 1 one)
 
-    pub renew-pass : e .kind ≡ 1 → x < spent → renewVerdict s n e ≡ pass
-    unfolding renewVerdict
-    renew-pass d h = rw (eq-eqb (e .kind) 1 d, ← renew-nonce, lt-ltb x spent h)
+    pub seek-spent : spent ≤ new .nonce → restOn m s t (revoke k c) [] ≡ stop atNonces
+    seek-spent h = left ∙ rw (lt-leb (new .nonce + 1) spent (omega arith))
 
--- the same of an equal verdict, nonce and tag
-pub renews-as : (r : Renewal) (v w : Verdict) (ν μ g k : ℕ) → w ≡ v → μ ≡ ν → k ≡ g → Renews r v ν g → Renews r w μ k
-renews-as r v w ν μ g k e f i h = rw (e, f, i) h
+    pub seek-pass : new .nonce < spent → new .tag ≡ issue s n (dated f (new .nonce)) .tag → (restOn m s t (revoke k c) [] ≡ pass) × Renews s t (numberOf k) (fresh (namedEntry t k) 0) new
+    seek-pass h g = (left ∙ rw (le-leb (new .nonce + 1) spent (omega arith)), record { nonce = other; below = h; tag = g ∙ rw (anew, here, is) })
 
 -- ---- all places
 
-module _ (m : ℕ) (s : parts.State) (t : List ℕ) (k c : ℕ) where
-  abbrev first : List Check
-  first = settings m s t ++ (encodingFits c ∷ noOffset k ∷ [])
-
-  abbrev last : List Check
-  last = isDirect t k ∷ need 11 (ltb (revokeNonce s t (numberOf k)) spent) ∷ []
-
+module _ (m : ℕ) (s : State) (t : List ℕ) (k c : ℕ) where
   -- place 1, with the token read as n
-  module _ (n : Named) (is : n ≡ named k) where
-    abbrev holds : Bool
-    holds = settingsHold m t (s .last) (s .next) && leb c 3 && eqb (n .offset) 0
+  pub revoke-request : (n : Named) → n ≡ named k → (settingsHold m s t && leb c 3 && eqb (n .offset) 0) ≡ requestHolds m s t (revoke k c) []
+  unfolding settingsHold requestHolds
+  revoke-request n is = rw is
 
-    pub revoke-request : holds ≡ false → verdictOn m s t (revoke k c) [] ≡ stop 1 0
-    unfolding verdictOn settingsHold
-    revoke-request h = first-stops first (live m t k) last tt (rw is at h)
+  pub revoke-token : {v : Verdict} → liveVerdict m t k ≡ v → tokensOn m s t (revoke k c) [] ≡ v
+  unfolding liveVerdict tokensOn
+  revoke-token h = h
 
-    -- it passes, and the token is live or not
-    module _ (ok : holds ≡ true) where
-      pub revoke-next : s .next ≤ spent
-      unfolding settingsHold
-      revoke-next = leb-true _ _ (all-passed 1 first tt (rw is at ok) .1 .1 .1 .1 .1 .1 .1 .0)
+  pub revoke-next : requestHolds m s t (revoke k c) [] ≡ true → s .next ≤ spent
+  revoke-next ok =
+      let all : AllTrue (sizes m t ++ places m s t (revoke k c) [] .request) = request-true m s t (revoke k c) [] ok in
+      limits m s t (search) .left
 
-      pub revoke-token : (r p : ℕ) → liveVerdict m t k ≡ stop r p → verdictOn m s t (revoke k c) [] ≡ stop r p
-      unfolding verdictOn settingsHold liveVerdict
-      revoke-token r p h = token-stops first (live m t k) last tt r p (rw is at ok) h
+-- ---- what a pass says, and a nonce that is found
 
-      pub revoke-live : (e : Entry) → e ≡ at t (n .number) → liveVerdict m t k ≡ pass → verdictOn m s t (revoke k c) [] ≡ renewVerdict s (n .number) e
-      unfolding verdictOn settingsHold liveVerdict renewVerdict renewNonce
-      revoke-live e there h = token-passes first (live m t k) last tt (rw is at ok) h ∙ rw (there, is)
+pub record Revocable (m : ℕ) (s : State) (t : List ℕ) (k c : ℕ) : Type 0 where
+  pub segment : namedEntry t k .base + namedEntry t k .length ≤ m
+  pub issues : Issues s t (numberOf k) (fresh (namedEntry t k) 0) c
 
--- what a pass says
-pub record Revocable (m : ℕ) (s : parts.State) (t : List ℕ) (k c : ℕ) : Type 0 where
-  pub inside : 32 * numberOf k + 32 ≤ length t
-  pub small : numberOf k < 1024
-  pub encoded : c ≤ 3
-  pub segment : at t (numberOf k) .base + at t (numberOf k) .length ≤ m
-  pub nonce : renewNonce s (numberOf k) (at t (numberOf k)) < spent
-
-facts : (m : ℕ) (s : parts.State) (t : List ℕ) (k c : ℕ) → Passed (checks m s t (revoke k c) []) → Revocable m s t k c
-unfolding size renewNonce
-facts m s t k c all =
+pub revocable : (m : ℕ) (s : State) (t : List ℕ) (k c : ℕ) → verdictOn m s t (revoke k c) [] ≡ pass → Revocable m s t k c
+unfolding size
+revocable m s t k c h =
+    let all : Passed (checks m s t (revoke k c) []) = passed-on m s t (revoke k c) [] h in
     let i : numberOf k < length t / 32 = ltb-true _ _ (search) in
     let most : length t / 32 ≤ 1024 = leb-true _ _ (search) in
-    record { inside = omega arith; small = omega arith; encoded = leb-true c 3 (search); segment = reached-inside m t (numberOf k) (search) (search); nonce = ltb-true _ _ (search) }
+    let nonce : otherNonce s t (numberOf k) (fresh (namedEntry t k)) + 1 ≤ spent = leb-true _ _ (search) in
+    record {
+      segment = reached-inside m t (numberOf k) (search) (search);
+      issues = record {
+        inside = omega arith;
+        small = omega arith;
+        fits = direct-fits _ _ _ 7 _ _ _ (omega arith);
+        encoded = leb-true c 3 (search);
+        left = omega (arith, other-least s t (numberOf k) (fresh (namedEntry t k)));
+      };
+    }
 
-pub revocable : (m : ℕ) (s : parts.State) (t : List ℕ) (k c : ℕ) → verdictOn m s t (revoke k c) [] ≡ pass → Revocable m s t k c
-revocable m s t k c h = facts m s t k c (passed-on m s t (revoke k c) [] h)
+-- ---- what is handed back, where the token is read as n, and its entry as e
 
--- ---- what is handed back
-
--- where the token is read as n, its entry as e, and it is issued anew as new
-module _ (m : ℕ) (s : Issuer) (t : List ℕ) (k c : ℕ) (n : Named) (e : Entry) (is : n ≡ named k) (there : e ≡ at t (n .number)) where
-  pub revoke-grants : (new : Entry) (x g first : ℕ) (r : Outcome) (t′ : List ℕ)
-      → x ≡ renewNonce (issuerAs s) (numberOf k) (at t (numberOf k)) → g ≡ renewTag (issuerAs s) (numberOf k) (at t (numberOf k))
-      → new ≡ direct (e .base) (e .length) 0 7 true g x → first ≡ token c (record { tag = g; number = n .number; offset = 0 })
-      → t′ ≡ put t (n .number) new
-      → r ≡ giving (record { key0 = s .key0; key1 = s .key1; last = s .last; next = x + 1 }) first 0
-      → handed r t′ ≡ granting m (issuerAs s) t (revoke k c) []
-  unfolding granting renewNonce renewTag
-  revoke-grants new x g first r t′ nonce tag anew gives now done = rw (done, gives, now, anew, tag, nonce, there, is)
+module _ (m : ℕ) (t : List ℕ) (k c : ℕ) (n : Named) (e : Entry) (is : n ≡ named k) (there : e ≡ at t (n .number)) where
+  pub revoke-grants : (s : StateWords) (f : Entry) (new : Issued) (r : Outcome) (t′ : List ℕ)
+      → f ≡ fresh e 0 → issuedAs new t′ ≡ leftBy (write c (opened (stateAs s) t) (renew (n .number) (dated f))) → r ≡ givingOne (new .state) (new .token)
+      → handed r t′ ≡ granting m (stateAs s) t (revoke k c) []
+  unfolding granting
+  revoke-grants s f new r t′ anew left done = rw done (ap leaving left ∙ rw (anew, there, is))
 
   pub revoke-clears : (memory memory′ : List ℕ) → memory′ ≡ sets memory (e .base) (replicate (e .length) 0)
-      → memory′ ≡ memoryAfter (grantedEffect m (issuerAs s) t (revoke k c) []) memory
+      → memory′ ≡ memoryAfter (grantedEffect m t (revoke k c) []) memory
   unfolding grantedEffect
   revoke-clears memory memory′ h = h ∙ rw (there, is)

@@ -1,3 +1,2 @@
-pub mod Creations
 pub mod Neighbours
 pub mod Renewals

@@ -1,33 +1,34 @@
 // Create splits a segment: a front part gets a new number, and the rest keeps the old one.
-use checks::answer::Refusal;
 use checks::reach::Reached;
 use checks::reach::reach;
+use checks::refusal::Refusal;
 use checks::settings::settings;
 use layout::entry::Entry;
 use layout::entry::direct;
-use layout::entry::free_words;
 use rulings::allot::Allotted;
 use rulings::allot::allot;
-use rulings::answer::Outcome;
-use rulings::answer::giving;
-use rulings::answer::refused;
-use rulings::issue::issue;
-use rulings::issuer::Issuer;
+use rulings::reply::Outcome;
+use rulings::reply::giving;
+use rulings::reply::giving_two;
+use rulings::reply::refused;
 use table::entries::entry_at;
-use table::entries::put_words;
+use table::state::StateWords;
+use table::writes::give;
+use table::writes::reissue;
+use table::writes::vacate;
 use tokens::permissions::within;
 use tokens::token::read;
 ghost use mathlib.Core.Path.{_≡_};
 ghost use mathlib.Core.Bool.{cond};
 ghost use mathlib.Core.List.{[]};
-ghost use Prim.Native.Nat.{_+_, _*_, _≤_};
+ghost use Prim.Native.Nat.{ℕ, _≤_};
 ghost use lib.Dec.{eqb};
 ghost use lib.ListN as list;
-ghost use Rattle.machine.specs.Operations.{numberOf};
+ghost use Rattle.machine.specs.Operations.{namedEntry};
 ghost use Rattle.machine.specs.Requests as request;
-ghost use Rattle.rulings.specs.Allotments.{allotted, Allots, Settled};
-ghost use Rattle.segments.specs.Creations.{cutVerdict, Leaving, leaving};
-ghost use Rattle.rulings.specs.Rulings.{decided, granting, handed, issuerAs, verdictOn};
+ghost use Rattle.table.specs.States.{stateAs};
+ghost use Rattle.rulings.specs.Allotments.{allotted, Allots, Limits};
+ghost use Rattle.rulings.specs.Rulings.{granting, handed, restOn, rulingOn, verdictOn};
 
 // One nonce for the part, and one for the rest if there is any.
 fn nonces(length: u64, whole: u64) -> u64
@@ -37,14 +38,11 @@ fn nonces(length: u64, whole: u64) -> u64
     if length == whole { 1 } else { 2 }
 }
 
-// Places 6 to 11.
-fn check_cut(s: Issuer, table: &[u8], token: u64, length: u64, permissions: u64) -> Allotted
-    requires { ⌜ Settled (now table) (s .last) (s .next) × (permissions ≤ 7) ⌝ }
-    requires { ⌜ 32 * numberOf token + 32 ≤ list.length (now table) ⌝ }
-    ensures { λ r. ⌜ Allots (issuerAs s) (now (table .entry)) r (cutVerdict (issuerAs s) (now (table .entry)) token length permissions) ⌝ }
+// Places 6 to 11 for the entry e, whatever token names it and whatever the request carries besides.
+fn check_cut(s: StateWords, table: &[u8], e: Entry, length: u64, permissions: u64) -> Allotted
+    requires { ⌜ Limits (stateAs s) (now table) × (permissions ≤ 7) ⌝ }
+    ensures { λ r. ⌜ ((m k u x c : ℕ) → e ≡ namedEntry (now (table .entry)) k → Allots (stateAs s) (now (table .entry)) r (restOn m (stateAs s) (now (table .entry)) (request.create k u length x permissions c) [])) ⌝ }
 {
-    let named = read(token);
-    let e = entry_at(table, named.number as usize);
     let whole = e.length as u64;
     if e.kind != 1 {
         return Allotted::Stop(Refusal::Kind);
@@ -55,14 +53,14 @@ fn check_cut(s: Issuer, table: &[u8], token: u64, length: u64, permissions: u64)
     if whole < length {
         return Allotted::Stop(Refusal::Bounds);
     }
-    if e.locked | (e.count != 0) {
+    if !(!e.locked & (e.count == 0)) {
         return Allotted::Stop(Refusal::Standing);
     }
     allot(s, table, nonces(length, whole))
 }
 
 fn check_create(
-    s: Issuer,
+    s: StateWords,
     table: &[u8],
     memory: u64,
     token: u64,
@@ -72,10 +70,10 @@ fn check_create(
     permissions: u64,
     encoding: u64,
 ) -> Allotted
-    ensures { λ r. ⌜ Allots (issuerAs s) (now (table .entry)) r (verdictOn memory (issuerAs s) (now (table .entry)) (request.create token task length user permissions encoding) []) ⌝ }
+    ensures { λ r. ⌜ Allots (stateAs s) (now (table .entry)) r (verdictOn memory (stateAs s) (now (table .entry)) (request.create token task length user permissions encoding) []) ⌝ }
 {
     let named = read(token);
-    if settings(memory, table, s.last, s.next)
+    if settings(memory, s, table)
         & (task < 1 << 55)
         & (encoding <= 3)
         & (permissions <= 7)
@@ -85,47 +83,19 @@ fn check_create(
         let r = reach(table, memory, token, task);
         match r {
             Reached::Stop(why) => Allotted::Stop(why),
-            Reached::Owner(_) => check_cut(s, table, token, length, permissions),
+            Reached::Owner(_) => {
+                let e = entry_at(table, named.number as usize);
+                check_cut(s, table, e, length, permissions)
+            }
         }
     } else {
         Allotted::Stop(Refusal::Request)
     }
 }
 
-// The rest of the segment e under its number n, issued anew, or freed if nothing is left. The
-// part has the first token.
-fn leave(
-    mut s: Issuer,
-    table: &mut [u8],
-    n: usize,
-    new: usize,
-    e: Entry,
-    length: u32,
-    first: u64,
-    encoding: u64,
-) -> Outcome
-    requires { ⌜ Leaving (issuerAs s) (now table) n e length encoding ⌝ }
-    ensures { λ r. ⌜ handed r (now (table .exit)) ≡ leaving (issuerAs s) (now (table .entry)) n new e length first encoding ⌝ }
-{
-    if length == e.length {
-        put_words(table, n, free_words());
-        s.last = new as u64;
-        s.next += 1;
-        giving(s, first, 0)
-    } else {
-        let base = e.base + length;
-        let nonce = (s.next + 1) as u32;
-        let left = e.length - length;
-        let rest = direct(base, left, e.user, e.permissions, e.lockable, 0, nonce);
-        let second = issue(s, table, n, rest, encoding);
-        s.last = new as u64;
-        s.next += 2;
-        giving(s, first, second)
-    }
-}
-
+// The part is issued under the new number. The rest is issued anew, or freed if nothing is left.
 fn grant_create(
-    mut s: Issuer,
+    mut s: StateWords,
     table: &mut [u8],
     memory: u64,
     new: usize,
@@ -136,23 +106,31 @@ fn grant_create(
     permissions: u64,
     encoding: u64,
 ) -> Outcome
-    requires { ⌜ allotted memory (issuerAs s) (now table) (request.create token task length user permissions encoding) new ⌝ }
-    ensures { λ r. ⌜ handed r (now (table .exit)) ≡ granting memory (issuerAs s) (now (table .entry)) (request.create token task length user permissions encoding) [] ⌝ }
+    requires { ⌜ allotted memory (stateAs s) (now table) (request.create token task length user permissions encoding) new ⌝ }
+    ensures { λ r. ⌜ handed r (now (table .exit)) ≡ granting memory (stateAs s) (now (table .entry)) (request.create token task length user permissions encoding) [] ⌝ }
 {
     let named = read(token);
     let n = named.number as usize;
     let e = entry_at(table, n);
     let long = length as u32;
-    let nonce = s.next as u32;
-    let part = direct(e.base, long, user, permissions as u8, e.lockable, 0, nonce);
-    let first = issue(s, table, new, part, encoding);
-    leave(s, table, n, new, e, long, first, encoding)
+    let part = direct(e.base, long, user, permissions as u8, e.lockable, 0, 0);
+    let first = give(s, table, new, part, encoding);
+    if long == e.length {
+        vacate(table, n);
+        giving(first.state, first.token)
+    } else {
+        let base = e.base + long;
+        let left = e.length - long;
+        let rest = direct(base, left, e.user, e.permissions, e.lockable, 0, 0);
+        let second = reissue(first.state, table, n, rest, encoding);
+        giving_two(second.state, first.token, second.token)
+    }
 }
 
 // A front part of the segment as a segment of its own, with a user and permissions, and the
-// rest. Without a rest the second token is zero.
+// rest. Without a rest there is one token.
 pub fn create(
-    mut s: Issuer,
+    mut s: StateWords,
     table: &mut [u8],
     memory: &[u8],
     token: u64,
@@ -162,7 +140,7 @@ pub fn create(
     permissions: u64,
     encoding: u64,
 ) -> Outcome
-    ensures { λ r. ⌜ handed r (now (table .exit)) ≡ decided (list.length (now (memory .entry))) (issuerAs s) (now (table .entry)) (request.create token task length user permissions encoding) [] ⌝ }
+    ensures { λ r. ⌜ handed r (now (table .exit)) ≡ rulingOn (list.length (now (memory .entry))) (stateAs s) (now (table .entry)) (request.create token task length user permissions encoding) [] ⌝ }
 {
     let bytes = memory.len() as u64;
     let r = check_create(

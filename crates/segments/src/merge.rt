@@ -1,28 +1,30 @@
 // Merge joins two neighbours into one segment.
-use checks::answer::Refusal;
 use checks::reach::Reached;
 use checks::reach::reach;
+use checks::refusal::Refusal;
 use checks::settings::settings;
 use layout::entry::Entry;
 use layout::entry::direct;
-use layout::entry::free_words;
-use rulings::answer::Checked;
-use rulings::answer::Outcome;
-use rulings::answer::giving;
-use rulings::answer::refused;
-use rulings::issue::issue;
-use rulings::issuer::Issuer;
+use rulings::reply::Checked;
+use rulings::reply::Outcome;
+use rulings::reply::giving;
+use rulings::reply::refused;
 use table::entries::entry_at;
-use table::entries::put_words;
+use table::state::StateWords;
+use table::writes::reissue;
+use table::writes::vacate;
 use tokens::token::read;
 ghost use mathlib.Core.Path.{_≡_};
-ghost use mathlib.Core.List.{[]};
-ghost use Prim.Native.Nat.{_+_, _<_, _^_};
+ghost use mathlib.Core.List.{List, []};
+ghost use Prim.Native.Nat.{ℕ, _+_, _<_, _^_};
 ghost use lib.ListN.{length};
-ghost use Rattle.machine.specs.Operations.{numberOf};
+ghost use Rattle.machine.specs.Operations.{mergedOf, numberOf};
+ghost use Rattle.machine.specs.Parts.{at, State};
 ghost use Rattle.machine.specs.Requests as request;
-ghost use Rattle.segments.specs.Neighbours.{bothVerdict, Joining, joining, merging, neighbourVerdict, Pairs};
-ghost use Rattle.rulings.specs.Rulings.{checkedAs, decided, handed, issuerAs, verdictOn};
+ghost use Rattle.machine.specs.Steps.{pass};
+ghost use Rattle.table.specs.States.{stateAs};
+ghost use Rattle.rulings.specs.Rulings.{checkedAs, granting, handed, restOn, rulingOn, tokensOn, verdictOn};
+ghost use Rattle.segments.specs.Neighbours.{Pairs};
 
 // What the checks of a merge come to: where it stops, or the numbers of both entries.
 pub enum Pair {
@@ -32,7 +34,7 @@ pub enum Pair {
 
 // Places 2 to 5 for one token, then for the other.
 fn reach_both(table: &[u8], memory: u64, first: u64, second: u64, task: u64) -> Checked
-    ensures { λ r. ⌜ checkedAs r ≡ bothVerdict memory (now (table .entry)) first second task ⌝ }
+    ensures { λ r. ⌜ ((s : State) (c : ℕ) → checkedAs r ≡ tokensOn memory s (now (table .entry)) (request.merge first second task c) []) ⌝ }
 {
     let a = reach(table, memory, first, task);
     match a {
@@ -47,9 +49,10 @@ fn reach_both(table: &[u8], memory: u64, first: u64, second: u64, task: u64) -> 
     }
 }
 
-// Places 6 to 11, for d of number n and e of number k: e starts where d ends, and one nonce is left.
-fn neighbours(d: Entry, e: Entry, n: usize, k: usize, next: u64) -> Pair
-    ensures { λ r. ⌜ Pairs r (neighbourVerdict d e next) n k ⌝ }
+// Places 6 to 11, for d of number n and e of number k, whatever tokens name them: e starts where d
+// ends, and one nonce is left.
+fn neighbours(s: StateWords, d: Entry, e: Entry, n: usize, k: usize) -> Pair
+    ensures { λ r. ⌜ ((m : ℕ) (t : List ℕ) (i j u c : ℕ) → n ≡ numberOf i → k ≡ numberOf j → d ≡ at t n → e ≡ at t k → Pairs i j r (restOn m (stateAs s) t (request.merge i j u c) [])) ⌝ }
 {
     if !((d.kind == 1) & (e.kind == 1)) {
         return Pair::Stop(Refusal::Kind);
@@ -61,7 +64,7 @@ fn neighbours(d: Entry, e: Entry, n: usize, k: usize, next: u64) -> Pair
     if !(!d.locked & !e.locked & (d.count == 0) & (e.count == 0)) {
         return Pair::Stop(Refusal::Standing);
     }
-    if next < 4294967296 {
+    if s.next < 4294967296 {
         Pair::Numbers(n, k)
     } else {
         Pair::Stop(Refusal::Nonces)
@@ -69,17 +72,17 @@ fn neighbours(d: Entry, e: Entry, n: usize, k: usize, next: u64) -> Pair
 }
 
 // A direct entry over both, with the first's user and Lockable and the permissions both have.
-fn joined(d: Entry, e: Entry, nonce: u32) -> Entry
+fn joined(d: Entry, e: Entry) -> Entry
     requires { ⌜ d .length + e .length < 2 ^ 32 ⌝ }
-    ensures { λ r. ⌜ r ≡ joining d e nonce ⌝ }
+    ensures { λ r. ⌜ r ≡ mergedOf d e 0 ⌝ }
 {
     let length = d.length + e.length;
     let permissions = d.permissions & e.permissions;
-    direct(d.base, length, d.user, permissions, d.lockable, 0, nonce)
+    direct(d.base, length, d.user, permissions, d.lockable, 0, 0)
 }
 
 fn check_merge(
-    s: Issuer,
+    s: StateWords,
     table: &[u8],
     memory: u64,
     first: u64,
@@ -87,11 +90,11 @@ fn check_merge(
     task: u64,
     encoding: u64,
 ) -> Pair
-    ensures { λ r. ⌜ Pairs r (verdictOn memory (issuerAs s) (now (table .entry)) (request.merge first second task encoding) []) (numberOf first) (numberOf second) ⌝ }
+    ensures { λ r. ⌜ Pairs first second r (verdictOn memory (stateAs s) (now (table .entry)) (request.merge first second task encoding) []) ⌝ }
 {
     let a = read(first);
     let b = read(second);
-    if settings(memory, table, s.last, s.next)
+    if settings(memory, s, table)
         & (task < 1 << 55)
         & (encoding <= 3)
         & (a.offset == 0)
@@ -103,7 +106,7 @@ fn check_merge(
             Checked::Pass => {
                 let n = a.number as usize;
                 let k = b.number as usize;
-                neighbours(entry_at(table, n), entry_at(table, k), n, k, s.next)
+                neighbours(s, entry_at(table, n), entry_at(table, k), n, k)
             }
         }
     } else {
@@ -111,23 +114,31 @@ fn check_merge(
     }
 }
 
-// The second is freed, and the first issued anew over both.
-fn grant_merge(mut s: Issuer, table: &mut [u8], n: usize, k: usize, encoding: u64) -> Outcome
-    requires { ⌜ Joining (issuerAs s) (now table) n k encoding ⌝ }
-    ensures { λ r. ⌜ handed r (now (table .exit)) ≡ merging (issuerAs s) (now (table .entry)) n k encoding ⌝ }
+// The second, of number k, is freed, and the first, of number n, issued anew over both.
+fn grant_merge(
+    mut s: StateWords,
+    table: &mut [u8],
+    memory: u64,
+    n: usize,
+    k: usize,
+    first: u64,
+    second: u64,
+    task: u64,
+    encoding: u64,
+) -> Outcome
+    requires { ⌜ verdictOn memory (stateAs s) (now table) (request.merge first second task encoding) [] ≡ pass ⌝ }
+    requires { ⌜ (n ≡ numberOf first) × (k ≡ numberOf second) ⌝ }
+    ensures { λ r. ⌜ handed r (now (table .exit)) ≡ granting memory (stateAs s) (now (table .entry)) (request.merge first second task encoding) [] ⌝ }
 {
-    let d = entry_at(table, n);
-    let e = entry_at(table, k);
-    let whole = joined(d, e, s.next as u32);
-    put_words(table, k, free_words());
-    let token = issue(s, table, n, whole, encoding);
-    s.next += 1;
-    giving(s, token, 0)
+    let whole = joined(entry_at(table, n), entry_at(table, k));
+    vacate(table, k);
+    let new = reissue(s, table, n, whole, encoding);
+    giving(new.state, new.token)
 }
 
 // Two neighbours in order become one segment under the first's number.
 pub fn merge(
-    mut s: Issuer,
+    mut s: StateWords,
     table: &mut [u8],
     memory: &[u8],
     first: u64,
@@ -135,12 +146,12 @@ pub fn merge(
     task: u64,
     encoding: u64,
 ) -> Outcome
-    ensures { λ r. ⌜ handed r (now (table .exit)) ≡ decided (length (now (memory .entry))) (issuerAs s) (now (table .entry)) (request.merge first second task encoding) [] ⌝ }
+    ensures { λ r. ⌜ handed r (now (table .exit)) ≡ rulingOn (length (now (memory .entry))) (stateAs s) (now (table .entry)) (request.merge first second task encoding) [] ⌝ }
 {
     let bytes = memory.len() as u64;
     let r = check_merge(s, table, bytes, first, second, task, encoding);
     match r {
         Pair::Stop(why) => refused(s, why),
-        Pair::Numbers(n, k) => grant_merge(s, table, n, k, encoding),
+        Pair::Numbers(n, k) => { grant_merge(s, table, bytes, n, k, first, second, task, encoding) }
     }
 }

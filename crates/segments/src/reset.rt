@@ -1,31 +1,30 @@
 // Reset: the root over all of memory, and nothing else.
-use checks::answer::Refusal;
+use checks::refusal::Refusal;
 use checks::settings::sizes;
-use layout::entry::direct;
-use rulings::answer::Checked;
-use rulings::answer::Outcome;
-use rulings::answer::plain;
-use rulings::answer::refused;
-use rulings::issuer::Issuer;
-use table::bytes::clear;
-use table::entries::put_entry;
+use rulings::reply::Checked;
+use rulings::reply::Outcome;
+use rulings::reply::plain;
+use rulings::reply::refused;
+use table::state::StateWords;
+use table::writes::begin;
 ghost use mathlib.Core.Path.{_≡_};
 ghost use mathlib.Core.List.{[]};
 ghost use lib.ListN.{length};
 ghost use Rattle.machine.specs.Requests as request;
 ghost use Rattle.machine.specs.Steps.{pass};
-ghost use Rattle.rulings.specs.Rulings.{checkedAs, decided, granting, handed, issuerAs, verdictOn};
+ghost use Rattle.table.specs.States.{stateAs};
+ghost use Rattle.rulings.specs.Rulings.{checkedAs, granting, handed, rulingOn, verdictOn};
 
 // The state that is handed in is not judged: it is replaced.
 fn check_reset(
-    s: Issuer,
+    s: StateWords,
     table: &[u8],
     memory: u64,
     key0: u64,
     key1: u64,
     first_nonce: u64,
 ) -> Checked
-    ensures { λ r. ⌜ checkedAs r ≡ verdictOn memory (issuerAs s) (now (table .entry)) (request.reset key0 key1 «first_nonce») [] ⌝ }
+    ensures { λ r. ⌜ checkedAs r ≡ verdictOn memory (stateAs s) (now (table .entry)) (request.reset key0 key1 «first_nonce») [] ⌝ }
 {
     if sizes(memory, table) & (1 <= first_nonce) & (first_nonce < 4294967296) {
         Checked::Pass
@@ -35,37 +34,30 @@ fn check_reset(
 }
 
 fn grant_reset(
-    mut s: Issuer,
+    mut s: StateWords,
     table: &mut [u8],
     memory: u64,
     key0: u64,
     key1: u64,
     first_nonce: u64,
 ) -> Outcome
-    requires { ⌜ verdictOn memory (issuerAs s) (now table) (request.reset key0 key1 «first_nonce») [] ≡ pass ⌝ }
-    ensures { λ r. ⌜ handed r (now (table .exit)) ≡ granting memory (issuerAs s) (now (table .entry)) (request.reset key0 key1 «first_nonce») [] ⌝ }
+    requires { ⌜ verdictOn memory (stateAs s) (now table) (request.reset key0 key1 «first_nonce») [] ≡ pass ⌝ }
+    ensures { λ r. ⌜ handed r (now (table .exit)) ≡ granting memory (stateAs s) (now (table .entry)) (request.reset key0 key1 «first_nonce») [] ⌝ }
 {
-    clear(table);
-    put_entry(table, 0, direct(0, memory as u32, 0, 7, true, 0, 0));
-    let fresh = Issuer {
-        key0,
-        key1,
-        last: 0,
-        next: first_nonce,
-    };
-    plain(fresh, 0)
+    let begun = begin(s, table, memory, key0, key1, first_nonce);
+    plain(begun, 0)
 }
 
 // Writes the root entry, makes all other entries zeros, and starts from the key and nonce.
 pub fn reset(
-    mut s: Issuer,
+    mut s: StateWords,
     table: &mut [u8],
     memory: &[u8],
     key0: u64,
     key1: u64,
     first_nonce: u64,
 ) -> Outcome
-    ensures { λ r. ⌜ handed r (now (table .exit)) ≡ decided (length (now (memory .entry))) (issuerAs s) (now (table .entry)) (request.reset key0 key1 «first_nonce») [] ⌝ }
+    ensures { λ r. ⌜ handed r (now (table .exit)) ≡ rulingOn (length (now (memory .entry))) (stateAs s) (now (table .entry)) (request.reset key0 key1 «first_nonce») [] ⌝ }
 {
     let bytes = memory.len() as u64;
     let r = check_reset(s, table, bytes, key0, key1, first_nonce);

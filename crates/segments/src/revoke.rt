@@ -1,31 +1,32 @@
 // Revoke zeros a segment and issues its number anew, under another tag than it had.
-use checks::answer::Refusal;
+use bits::slice::clear_from;
 use checks::reach::Reached;
 use checks::reach::reach_live;
+use checks::refusal::Refusal;
 use checks::settings::settings;
 use layout::entry::Entry;
 use layout::entry::direct;
-use rulings::answer::Outcome;
-use rulings::answer::giving;
-use rulings::answer::refused;
-use rulings::issuer::Issuer;
-use rulings::token::token_of;
-use table::bytes::clear_from;
+use rulings::reply::Outcome;
+use rulings::reply::giving;
+use rulings::reply::refused;
 use table::entries::entry_at;
-use table::entries::put_entry;
 use table::issue::Renewed;
 use table::issue::pass_over;
+use table::state::StateWords;
+use table::writes::renew;
 use tokens::token::read;
 ghost use mathlib.Core.Path.{_≡_};
-ghost use mathlib.Core.List.{[]};
-ghost use Prim.Native.Nat.{_≤_};
+ghost use mathlib.Core.List.{List, []};
+ghost use Prim.Native.Nat.{ℕ, _≤_};
 ghost use lib.ListN.{length};
-ghost use Rattle.machine.specs.Operations.{namedEntry, numberOf};
-ghost use Rattle.machine.specs.Parts.{spent};
+ghost use Rattle.machine.specs.Operations as operation;
+ghost use Rattle.machine.specs.Parts.{at, spent};
 ghost use Rattle.machine.specs.Requests as request;
 ghost use Rattle.machine.specs.Steps.{memoryAfter, pass};
-ghost use Rattle.segments.specs.Renewals.{renewNonce, Renews, renewTag, renewVerdict};
-ghost use Rattle.rulings.specs.Rulings.{decided, effectOn, grantedEffect, granting, handed, issuerAs, verdictOn};
+ghost use Rattle.table.specs.Left.{Renews};
+ghost use Rattle.table.specs.States.{stateAs};
+ghost use Rattle.rulings.specs.Rulings.{effectOn, grantedEffect, granting, handed, restOn, rulingOn, verdictOn};
+ghost use Rattle.segments.specs.Renewals.{Finds};
 
 // What the checks come to: where the request stops, or the nonce to issue with and the tag.
 pub enum Renewal {
@@ -33,13 +34,20 @@ pub enum Renewal {
     Anew(Renewed),
 }
 
-// Places 6 and 11, for the entry e of number n.
-fn renew(s: Issuer, n: usize, e: Entry) -> Renewal
+// The entry e as it is issued anew: its segment, with all rights and no user.
+fn fresh(e: Entry) -> Entry
+    ensures { λ r. ⌜ r ≡ operation.fresh e 0 ⌝ }
+{
+    direct(e.base, e.length, 0, 7, true, 0, 0)
+}
+
+// Places 6 and 11, for the entry e of number n, whatever token names it.
+fn seek(s: StateWords, n: usize, e: Entry) -> Renewal
     requires { ⌜ s .next ≤ spent ⌝ }
-    ensures { λ r. ⌜ Renews r (renewVerdict (issuerAs s) n e) (renewNonce (issuerAs s) n e) (renewTag (issuerAs s) n e) ⌝ }
+    ensures { λ r. ⌜ ((m : ℕ) (t : List ℕ) (k c : ℕ) → n ≡ operation.numberOf k → e ≡ at t n → Finds (stateAs s) t k r (restOn m (stateAs s) t (request.revoke k c) [])) ⌝ }
 {
     if e.kind == 1 {
-        let r = pass_over(s.key0, s.key1, n, e.base, e.length, e.tag, s.next);
+        let r = pass_over(s, n, fresh(e), e.tag);
         if r.nonce < 4294967296 {
             Renewal::Anew(r)
         } else {
@@ -50,17 +58,17 @@ fn renew(s: Issuer, n: usize, e: Entry) -> Renewal
     }
 }
 
-fn check_revoke(s: Issuer, table: &[u8], memory: u64, token: u64, encoding: u64) -> Renewal
-    ensures { λ r. ⌜ Renews r (verdictOn memory (issuerAs s) (now (table .entry)) (request.revoke token encoding) []) (renewNonce (issuerAs s) (numberOf token) (namedEntry (now (table .entry)) token)) (renewTag (issuerAs s) (numberOf token) (namedEntry (now (table .entry)) token)) ⌝ }
+fn check_revoke(s: StateWords, table: &[u8], memory: u64, token: u64, encoding: u64) -> Renewal
+    ensures { λ r. ⌜ Finds (stateAs s) (now (table .entry)) token r (verdictOn memory (stateAs s) (now (table .entry)) (request.revoke token encoding) []) ⌝ }
 {
     let named = read(token);
-    if settings(memory, table, s.last, s.next) & (encoding <= 3) & (named.offset == 0) {
+    if settings(memory, s, table) & (encoding <= 3) & (named.offset == 0) {
         let r = reach_live(table, memory, token);
         match r {
             Reached::Stop(why) => Renewal::Stop(why),
             Reached::Owner(_) => {
                 let n = named.number as usize;
-                renew(s, n, entry_at(table, n))
+                seek(s, n, entry_at(table, n))
             }
         }
     } else {
@@ -69,39 +77,36 @@ fn check_revoke(s: Issuer, table: &[u8], memory: u64, token: u64, encoding: u64)
 }
 
 fn grant_revoke(
-    mut s: Issuer,
+    mut s: StateWords,
     table: &mut [u8],
     memory: &mut [u8],
     token: u64,
     encoding: u64,
     new: Renewed,
 ) -> Outcome
-    requires { ⌜ verdictOn (length (now memory)) (issuerAs s) (now table) (request.revoke token encoding) [] ≡ pass ⌝ }
-    requires { ⌜ (new .nonce ≡ renewNonce (issuerAs s) (numberOf token) (namedEntry (now table) token)) × (new .tag ≡ renewTag (issuerAs s) (numberOf token) (namedEntry (now table) token)) ⌝ }
-    ensures { λ r. ⌜ handed r (now (table .exit)) ≡ granting (length (now (memory .entry))) (issuerAs s) (now (table .entry)) (request.revoke token encoding) [] ⌝ }
-    ensures { λ _. ⌜ now (memory .exit) ≡ memoryAfter (grantedEffect (length (now (memory .entry))) (issuerAs s) (now (table .entry)) (request.revoke token encoding) []) (now (memory .entry)) ⌝ }
+    requires { ⌜ verdictOn (length (now memory)) (stateAs s) (now table) (request.revoke token encoding) [] ≡ pass ⌝ }
+    requires { ⌜ Renews (stateAs s) (now table) (operation.numberOf token) (operation.fresh (operation.namedEntry (now table) token) 0) new ⌝ }
+    ensures { λ r. ⌜ handed r (now (table .exit)) ≡ granting (length (now (memory .entry))) (stateAs s) (now (table .entry)) (request.revoke token encoding) [] ⌝ }
+    ensures { λ _. ⌜ now (memory .exit) ≡ memoryAfter (grantedEffect (length (now (memory .entry))) (now (table .entry)) (request.revoke token encoding) []) (now (memory .entry)) ⌝ }
 {
     let named = read(token);
     let n = named.number as usize;
     let e = entry_at(table, n);
-    let fresh = direct(e.base, e.length, 0, 7, true, new.tag, new.nonce as u32);
-    put_entry(table, n, fresh);
+    let anew = renew(s, table, n, fresh(e), new, encoding);
     clear_from(memory, e.base as usize, e.length as usize);
-    let first = token_of(encoding, n, new.tag);
-    s.next = new.nonce + 1;
-    giving(s, first, 0)
+    giving(anew.state, anew.token)
 }
 
 // The segment is zeroed and issued anew, with all rights; the tag that it had names it no more.
 pub fn revoke(
-    mut s: Issuer,
+    mut s: StateWords,
     table: &mut [u8],
     memory: &mut [u8],
     token: u64,
     encoding: u64,
 ) -> Outcome
-    ensures { λ r. ⌜ handed r (now (table .exit)) ≡ decided (length (now (memory .entry))) (issuerAs s) (now (table .entry)) (request.revoke token encoding) [] ⌝ }
-    ensures { λ _. ⌜ now (memory .exit) ≡ memoryAfter (effectOn (length (now (memory .entry))) (issuerAs s) (now (table .entry)) (request.revoke token encoding) []) (now (memory .entry)) ⌝ }
+    ensures { λ r. ⌜ handed r (now (table .exit)) ≡ rulingOn (length (now (memory .entry))) (stateAs s) (now (table .entry)) (request.revoke token encoding) [] ⌝ }
+    ensures { λ _. ⌜ now (memory .exit) ≡ memoryAfter (effectOn (length (now (memory .entry))) (stateAs s) (now (table .entry)) (request.revoke token encoding) []) (now (memory .entry)) ⌝ }
 {
     let r = check_revoke(s, table, memory.len() as u64, token, encoding);
     match r {

@@ -1,43 +1,50 @@
 // Paper 01's session: 65,536 bytes, 4 entries, key 0, first nonce 1, task 0 unless named. Prints a
 // line for each case: case, space, refusal (0 granted).
 use libc::STDOUT_FILENO;
-use operations::state::Served;
 use operations::state::State;
-use rulings::answer::Answer;
-use rulings::answer::refusal_of;
-use rulings::issuer::Issuer;
+use rulings::reply::Outcome;
+use rulings::reply::Reply;
+use rulings::reply::Tokens;
+use rulings::reply::refusal_of;
+use table::state::StateWords;
+
+// The state that a request handed back.
+fn after(r: Outcome) -> State {
+    let words = r.state;
+    State { words }
+}
 
 // Prints a case's line, and hands the state on.
-fn shown(case: u64, r: Served) -> State {
-    let a = r.answer;
+fn shown(case: u64, r: Outcome) -> State {
+    let reply = r.reply;
     io::print_decimal(STDOUT_FILENO, case);
     io::write_all(STDOUT_FILENO, b" ");
-    io::print_decimal(STDOUT_FILENO, refusal_of(a));
+    io::print_decimal(STDOUT_FILENO, refusal_of(reply));
     io::write_all(STDOUT_FILENO, b"\n");
-    r.state
+    after(r)
 }
 
 // A read of twelve bytes, and of one.
-fn read_twelve(s: State, table: &[u8], memory: &[u8], token: u64) -> Served {
+fn read_twelve(s: State, table: &[u8], memory: &[u8], token: u64) -> Outcome {
     let mut buffer = [0u8; 12];
     s.read(table, memory, &mut buffer, token, 0)
 }
 
-fn read_one(s: State, table: &[u8], memory: &[u8], token: u64, task: u64) -> Served {
+fn read_one(s: State, table: &[u8], memory: &[u8], token: u64, task: u64) -> Outcome {
     let mut buffer = [0u8; 1];
     s.read(table, memory, &mut buffer, token, task)
 }
 
 // The first token of an answer.
-fn token_in(r: Served) -> u64 {
-    let a = r.answer;
-    match a {
-        Answer::Granted {
-            first,
-            second: _,
-            dropped: _,
-        } => first,
-        Answer::Refused(_) => 0,
+fn token_in(r: Outcome) -> u64 {
+    let reply = r.reply;
+    match reply {
+        Reply::Granted { tokens, dropped: _ } => match tokens {
+            Tokens::None => 0,
+            Tokens::One(token) => token,
+            Tokens::Two(token, _) => token,
+        },
+        Reply::Refused(_) => 0,
     }
 }
 
@@ -68,7 +75,7 @@ fn revoked(s: State, table: &mut [u8], memory: &mut [u8], token: u64) {
 
 fn session(table: &mut [u8], memory: &mut [u8]) {
     let blank = State {
-        issuer: Issuer {
+        words: StateWords {
             key0: 0,
             key1: 0,
             last: 0,
@@ -76,7 +83,7 @@ fn session(table: &mut [u8], memory: &mut [u8]) {
         },
     };
     let start = blank.reset(table, memory, 0, 0, 1);
-    let s = reads(start.state, table, memory);
+    let s = reads(after(start), table, memory);
     let derived = s.derive(table, memory, 0, 0, 65535, 4, 0);
     let token = token_in(derived);
     let s = shown(5, derived);

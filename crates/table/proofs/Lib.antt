@@ -1,4 +1,4 @@
 pub mod FitLaws
 pub mod LineLaws
-pub mod PartLaws
 pub mod SearchLaws
+pub mod WriteLaws

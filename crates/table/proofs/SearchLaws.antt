@@ -1,20 +1,17 @@
 -- The searches for a number and for a nonce, a step at a time.
 -- Assumes nothing.
-use mathlib.Core.Path.{_≡_, refl, sym, _∙_, ap}
+use mathlib.Core.Path.{_≡_, refl, sym, _∙_}
 use mathlib.Core.Bool.{Bool, true, false, cond}
 use mathlib.Core.List.{List}
 use Prim.Native.Nat.{ℕ, zero, suc, _+_, _-_, _/_, _≤_, _<_}
 use native.Mathlib.Omega.{arith}
-use lib.Dec.{eqb, ltb}
+use lib.Dec.{eqb}
 use lib.ListN.{length}
 use borrow.Author.Tests.{eq-eqb, le-ltb, lt-ltb, ne-eqb, not-true}
-use Rattle.layout.specs.Entry.{direct}
-use Rattle.layout.specs.Tag.{tagOf}
 use Rattle.layout.specs.declared.entry.Entry.{Entry}
 use Rattle.machine.specs.Issuing.{after, issue, passOver, seek}
 use Rattle.machine.specs.Parts.{at, size, spent, State}
 use Rattle.bits.proofs.TestLaws.{both}
-use Rattle.table.specs.Keys.{keyed}
 use Rattle.table.specs.Searches.{firstFree, fourTaken, taken}
 
 -- ---- a search in a row of numbers, before the end
@@ -115,21 +112,16 @@ unfolding passOver
 pass-step zero s n e old ν h = absurd (omega arith)
 pass-step (suc tries) s n e old ν h = let z : suc tries - 1 ≡ tries = omega arith in rw z
 
--- a segment issued with fresh rights and a nonce
-abbrev pub renewed : ℕ → ℕ → ℕ → Entry
-renewed base length ν = direct base length 0 7 true 0 ν
+-- the ways on from a nonce with which the entry has the tag g
+module _ (s : State) (n : ℕ) (e : ℕ → Entry) (old next ν g : ℕ)
+    (inv : passOver (spent - next) s n e old next ≡ passOver (spent - ν) s n e old ν) (left : ν < spent) (tagged : g ≡ issue s n (e ν) .tag) where
+  step-nonce : passOver (spent - next) s n e old next ≡ cond (eqb g old) (passOver (spent - ν - 1) s n e old (ν + 1)) ν
+  step-nonce = inv ∙ pass-step (spent - ν) s n e old ν (omega arith) ∙ rw (← tagged)
 
--- the ways on from a nonce with which the entry e has the tag g
-module _ (k0 k1 n base length old next ν g : ℕ) (e : Entry)
-    (inv : passOver (spent - next) (keyed k0 k1) n (renewed base length) old next ≡ passOver (spent - ν) (keyed k0 k1) n (renewed base length) old ν) (left : ν < spent)
-    (is : e ≡ direct base length 0 7 true 0 ν) (tagged : g ≡ tagOf k0 k1 e n) where
-  step-nonce : passOver (spent - next) (keyed k0 k1) n (renewed base length) old next ≡ cond (eqb g old) (passOver (spent - ν - 1) (keyed k0 k1) n (renewed base length) old (ν + 1)) ν
-  step-nonce = inv ∙ pass-step (spent - ν) (keyed k0 k1) n (renewed base length) old ν (omega arith) ∙ rw (← is, ← tagged)
-
-  pub pass-found : (g ≡ old → ⊥) → ν ≡ passOver (spent - next) (keyed k0 k1) n (renewed base length) old next
+  pub pass-found : (g ≡ old → ⊥) → ν ≡ passOver (spent - next) s n e old next
   pass-found h = sym (step-nonce ∙ rw (ne-eqb _ _ h))
 
-  pub pass-on : g ≡ old → passOver (spent - next) (keyed k0 k1) n (renewed base length) old next ≡ passOver (spent - (ν + 1)) (keyed k0 k1) n (renewed base length) old (ν + 1)
+  pub pass-on : g ≡ old → passOver (spent - next) s n e old next ≡ passOver (spent - (ν + 1)) s n e old (ν + 1)
   pass-on h = let less : spent - ν - 1 ≡ spent - (ν + 1) = omega arith in step-nonce ∙ rw (eq-eqb _ _ h, less)
 
 pub pass-none : (s : State) (n : ℕ) (e : ℕ → Entry) (old next ν : ℕ) → passOver (spent - next) s n e old next ≡ passOver (spent - ν) s n e old ν → spent ≤ ν
@@ -138,9 +130,3 @@ unfolding passOver
 pass-none s n e old next ν inv h =
     let none : spent - ν ≡ 0 = omega arith in
     sym (inv ∙ rw none refl)
-
--- of a state, only the key matters
-pub pass-keyed : (tries : ℕ) (s : State) (n : ℕ) (e : ℕ → Entry) (old ν : ℕ) → passOver tries (keyed (s .key0) (s .key1)) n e old ν ≡ passOver tries s n e old ν
-unfolding passOver
-pass-keyed zero s n e old ν = refl
-pass-keyed (suc tries) s n e old ν = ap (λ (later : ℕ). cond (eqb (issue s n (e ν) .tag) old) later ν) (pass-keyed tries s n e old (ν + 1))

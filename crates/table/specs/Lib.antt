@@ -1,4 +1,5 @@
-pub mod Keys
+pub mod Left
 pub mod Lines
 pub mod Searches
+pub mod States
 pub mod Stores

@@ -1,6 +1,5 @@
 -- The end of a line, as the code answers it.
 -- Assumes nothing.
-use Prim.Native.Nat.{ℕ}
 use Rattle.machine.specs.Line as line
 use Rattle.table.specs.declared.line.Line.{Line}
 use Rattle.table.specs.declared.line.Line.the-variants.{Dead, Ill, Owner}
@@ -9,9 +8,3 @@ abbrev pub lineAs : Line → line.Line
 lineAs (Owner k) = line.owner k
 lineAs (Dead k) = line.dead k
 lineAs (Ill k) = line.ill k
-
--- the entry at which it ends
-abbrev pub endOf : Line → ℕ
-endOf (Owner k) = k
-endOf (Dead k) = k
-endOf (Ill k) = k

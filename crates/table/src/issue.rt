@@ -1,28 +1,26 @@
 // Issues: an entry gets its tag under its number.
+use crate::state::StateWords;
 use layout::entry::Entry;
-use layout::entry::direct;
 use layout::tag::store_tagged;
 use layout::tag::tag;
 ghost use mathlib.Core.Path.{_≡_};
-ghost use mathlib.Core.Bool.{true};
-ghost use Prim.Native.Nat.{ℕ, _+_, _*_, _-_, _≤_, _<_};
+ghost use Prim.Native.Nat.{_+_, _*_, _-_, _≤_, _<_};
 ghost use lib.ListN.{length};
-ghost use Rattle.layout.specs.Entry.{direct, Fits};
-ghost use Rattle.layout.specs.Tag.{tagOf};
+ghost use Rattle.layout.specs.Entry.{dated, Fits};
 ghost use Rattle.machine.specs.Issuing.{issue, passOver};
 ghost use Rattle.machine.specs.Parts.{put, spent};
-ghost use Rattle.table.specs.Keys.{keyed};
+ghost use Rattle.table.specs.States.{stateAs};
 
 // The entry e, with its nonce, is issued under number n; gives its tag.
-pub fn issue_at(table: &mut [u8], k0: u64, k1: u64, n: usize, e: Entry) -> u16
+pub(crate) fn issue_at(s: StateWords, table: &mut [u8], n: usize, e: Entry) -> u16
     requires { ⌜ 32 * n + 32 ≤ length (now table) ⌝ }
     requires { ⌜ Fits e ⌝ }
-    ensures { λ r. ⌜ r ≡ issue (keyed k0 k1) n e .tag ⌝ }
-    ensures { λ _. ⌜ now (table .exit) ≡ put (now (table .entry)) n (issue (keyed k0 k1) n e) ⌝ }
+    ensures { λ r. ⌜ r ≡ issue (stateAs s) n e .tag ⌝ }
+    ensures { λ _. ⌜ now (table .exit) ≡ put (now (table .entry)) n (issue (stateAs s) n e) ⌝ }
 {
     let start = 32 * n;
     let end = start + 32;
-    store_tagged(&mut table[start..end], k0, k1, e, n as u64)
+    store_tagged(&mut table[start..end], s.key0, s.key1, e, n as u64)
 }
 
 // A nonce, and the tag of what is issued with it.
@@ -31,17 +29,19 @@ pub struct Renewed {
     pub tag: u16,
 }
 
-// The first nonce from the next one on with which a segment, all of whose rights are fresh, is
-// issued under number n with another tag than the old, and that tag; nonce 2^32 if there is none.
-pub fn pass_over(k0: u64, k1: u64, n: usize, base: u32, length: u32, old: u16, next: u64) -> Renewed
-    requires { ⌜ next ≤ spent ⌝ }
-    ensures { λ r. ⌜ r .nonce ≡ passOver (spent - next) (keyed k0 k1) n (λ (ν : ℕ). direct base length 0 7 true 0 ν) old next ⌝ }
-    ensures { λ r. ⌜ (r .nonce < spent → r .tag ≡ tagOf k0 k1 (direct base length 0 7 true 0 (r .nonce)) n) ⌝ }
+// The first nonce from the next one on with which the entry e is issued under number n with another
+// tag than the old, and that tag; nonce 2^32 if there is none.
+pub fn pass_over(s: StateWords, n: usize, e: Entry, old: u16) -> Renewed
+    requires { ⌜ s .next ≤ spent ⌝ }
+    requires { ⌜ Fits e ⌝ }
+    ensures { λ r. ⌜ r .nonce ≡ passOver (spent - s .next) (stateAs s) n (dated e) old (s .next) ⌝ }
+    ensures { λ r. ⌜ (r .nonce < spent → r .tag ≡ issue (stateAs s) n (dated e (r .nonce)) .tag) ⌝ }
 {
-    let mut nonce = next;
+    let mut nonce = s.next;
     while nonce < 4294967296 {
-        let e = direct(base, length, 0, 7, true, 0, nonce as u32);
-        let t = tag(k0, k1, e, n as u64);
+        let mut anew = e;
+        anew.nonce = nonce as u32;
+        let t = tag(s.key0, s.key1, anew, n as u64);
         if t != old {
             return Renewed { nonce, tag: t };
         }

@@ -6,8 +6,8 @@ use tokens::token::Encoding1;
 ghost use mathlib.Core.Path.{_≡_};
 ghost use Prim.Native.Nat.{_+_, _*_, _≤_};
 ghost use lib.ListN.{length};
-ghost use Rattle.machine.specs.Line.{lineOf, linked, links, parentNumber};
-ghost use Rattle.table.specs.Lines.{endOf, lineAs};
+ghost use Rattle.machine.specs.Line.{endOf, lineOf, linked, links, parentNumber};
+ghost use Rattle.table.specs.Lines.{lineAs};
 
 // What a walk up a line ends at: the owner, the entry that holds a missing link, or an ill-formed
 // entry.
@@ -49,7 +49,7 @@ pub fn linked(table: &[u8], e: Entry) -> bool
 pub fn walk(table: &[u8], memory: u64, n: usize) -> Line
     requires { ⌜ 32 * n + 32 ≤ length (now table) ⌝ }
     ensures { λ r. ⌜ lineAs r ≡ lineOf memory (now (table .entry)) n ⌝ }
-    ensures { λ r. ⌜ 32 * endOf r + 32 ≤ length (now (table .entry)) ⌝ }
+    ensures { λ r. ⌜ 32 * endOf (lineAs r) + 32 ≤ length (now (table .entry)) ⌝ }
 {
     let mut k = n;
     loop {

@@ -1,13 +1,15 @@
 // New numbers.
 use crate::entries::words_at;
+use crate::state::StateWords;
 use layout::entry::kind_of;
 ghost use mathlib.Core.Path.{_≡_};
 ghost use Prim.Native.Nat.{_+_, _*_, _-_, _/_, _≤_, _<_};
 ghost use lib.Dec.{eqb};
 ghost use lib.ListN.{length};
-ghost use Rattle.machine.specs.Issuing.{seek};
-ghost use Rattle.machine.specs.Parts.{at, size};
+ghost use Rattle.machine.specs.Issuing.{newNumber};
+ghost use Rattle.machine.specs.Parts.{at};
 ghost use Rattle.table.specs.Searches.{firstFree, fourTaken, Sought};
+ghost use Rattle.table.specs.States.{stateAs};
 
 // The entry of number n is free.
 fn is_free(table: &[u8], n: usize) -> bool
@@ -56,10 +58,11 @@ fn free_in(table: &[u8], start: usize, end: usize) -> usize
 }
 
 // The first free number after the last one given, or 0 if there is none.
-pub fn new_number(table: &[u8], last: usize) -> usize
-    requires { ⌜ (64 ≤ length (now table)) × (last < length (now table) / 32) ⌝ }
-    ensures { λ r. ⌜ r ≡ seek (size (now (table .entry)) - 1) (now (table .entry)) last ⌝ }
+pub fn new_number(s: StateWords, table: &[u8]) -> usize
+    requires { ⌜ (64 ≤ length (now table)) × (s .last < length (now table) / 32) ⌝ }
+    ensures { λ r. ⌜ r ≡ newNumber (stateAs s) (now (table .entry)) ⌝ }
 {
+    let last = s.last as usize;
     let later = free_in(table, last + 1, table.len() / 32);
     if later == 0 {
         free_in(table, 1, last + 1)

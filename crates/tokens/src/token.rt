@@ -2,7 +2,7 @@
 // offset. Each encoding is a type, to which the widths of its number and its offset belong.
 ghost use mathlib.Core.Path.{_≡_};
 ghost use mathlib.Core.Bool.{_&&_};
-ghost use Prim.Native.Nat.{_+_, _^_, _<_};
+ghost use Prim.Native.Nat.{_+_, _^_, _≤_, _<_};
 ghost use lib.Dec.{ltb};
 ghost use Rattle.bits.specs.Fields.{Fit};
 ghost use Rattle.tokens.specs.Token.{encodingOf, fitsAs, named, namedAs, namedIn, NamedFits, packing, token, tokenFields, tokenIn, tokenWidths};
@@ -225,4 +225,19 @@ pub fn pack(e: u64, n: Named) -> Packing
     } else {
         Packing::TooWide
     }
+}
+
+// The token of number n and a tag in the wanted encoding, offset zero.
+pub fn token_of(encoding: u64, n: usize, tag: u16) -> u64
+    requires { ⌜ (encoding ≤ 3) × (n < 1024) ⌝ }
+    ensures { λ r. ⌜ r ≡ token encoding (record { tag = tag; number = n; offset = 0 }) ⌝ }
+{
+    packed(
+        encoding,
+        Named {
+            tag: tag as u64,
+            number: n as u64,
+            offset: 0,
+        },
+    )
 }

@@ -2,55 +2,58 @@
 // key 0 and first nonce 1. Prints a line for each request: what it tries, the refusal (0 granted),
 // and drop's number.
 use libc::STDOUT_FILENO;
-use operations::state::Served;
 use operations::state::State;
-use rulings::answer::Answer;
-use rulings::answer::refusal_of;
-use rulings::issuer::Issuer;
+use rulings::reply::Outcome;
+use rulings::reply::Reply;
+use rulings::reply::Tokens;
+use rulings::reply::refusal_of;
+use table::state::StateWords;
 
-fn first_token(r: Served) -> u64 {
-    let a = r.answer;
-    match a {
-        Answer::Granted {
-            first,
-            second: _,
-            dropped: _,
-        } => first,
-        Answer::Refused(_) => 0,
+// The state that a request handed back.
+fn after(r: Outcome) -> State {
+    let words = r.state;
+    State { words }
+}
+
+fn first_token(r: Outcome) -> u64 {
+    let reply = r.reply;
+    match reply {
+        Reply::Granted { tokens, dropped: _ } => match tokens {
+            Tokens::None => 0,
+            Tokens::One(token) => token,
+            Tokens::Two(token, _) => token,
+        },
+        Reply::Refused(_) => 0,
     }
 }
 
-fn drop_number(a: Answer) -> u64 {
-    match a {
-        Answer::Granted {
-            first: _,
-            second: _,
-            dropped,
-        } => dropped,
-        Answer::Refused(_) => 0,
+fn drop_number(reply: Reply) -> u64 {
+    match reply {
+        Reply::Granted { tokens: _, dropped } => dropped,
+        Reply::Refused(_) => 0,
     }
 }
 
 // Prints a line, and hands the state on.
-fn shown(what: &[u8], r: Served) -> State {
-    let a = r.answer;
+fn shown(what: &[u8], r: Outcome) -> State {
+    let reply = r.reply;
     io::write_all(STDOUT_FILENO, what);
     io::write_all(STDOUT_FILENO, b" ");
-    io::print_decimal(STDOUT_FILENO, refusal_of(a));
+    io::print_decimal(STDOUT_FILENO, refusal_of(reply));
     io::write_all(STDOUT_FILENO, b" ");
-    io::print_decimal(STDOUT_FILENO, drop_number(a));
+    io::print_decimal(STDOUT_FILENO, drop_number(reply));
     io::write_all(STDOUT_FILENO, b"\n");
-    r.state
+    after(r)
 }
 
-fn read_one(s: State, table: &[u8], memory: &[u8], token: u64, task: u64) -> Served {
+fn read_one(s: State, table: &[u8], memory: &[u8], token: u64, task: u64) -> Outcome {
     let mut buffer = [0u8; 1];
     s.read(table, memory, &mut buffer, token, task)
 }
 
 fn started(table: &mut [u8], memory: &[u8]) -> State {
     let blank = State {
-        issuer: Issuer {
+        words: StateWords {
             key0: 0,
             key1: 0,
             last: 0,
@@ -58,16 +61,16 @@ fn started(table: &mut [u8], memory: &[u8]) -> State {
         },
     };
     let r = blank.reset(table, memory, 0, 0, 1);
-    r.state
+    after(r)
 }
 
 // A child of the first eight bytes, with R.
-fn child(s: State, table: &mut [u8], memory: &[u8], parent: u64) -> Served {
+fn child(s: State, table: &mut [u8], memory: &[u8], parent: u64) -> Outcome {
     s.derive(table, memory, parent, 0, 8, 4, 1)
 }
 
 // A child of that child.
-fn grandchild(s: State, table: &mut [u8], memory: &[u8], parent: u64) -> Served {
+fn grandchild(s: State, table: &mut [u8], memory: &[u8], parent: u64) -> Outcome {
     s.derive(table, memory, parent, 0, 7, 4, 1)
 }
 
@@ -87,17 +90,17 @@ fn low_bits(table: &mut [u8], memory: &[u8]) {
 fn given_again(table: &mut [u8], memory: &[u8]) {
     let s = started(table, memory);
     let a = child(s, table, memory, 0);
-    let b = grandchild(a.state, table, memory, first_token(a));
+    let b = grandchild(after(a), table, memory, first_token(a));
     let s = shown(
         b"drop the parent",
-        b.state.drop(table, memory, first_token(a)),
+        after(b).drop(table, memory, first_token(a)),
     );
     let s = shown(b"drop it again", s.drop(table, memory, first_token(a)));
     let c = child(s, table, memory, 0);
-    let d = child(c.state, table, memory, 0);
+    let d = child(after(c), table, memory, 0);
     let s = shown(
         b"read through the dead child",
-        read_one(d.state, table, memory, first_token(b), 0),
+        read_one(after(d), table, memory, first_token(b), 0),
     );
     shown(
         b"drop the dead child",
@@ -117,10 +120,10 @@ fn plain_address(table: &mut [u8], memory: &mut [u8]) {
 fn climbed(table: &mut [u8], memory: &[u8]) {
     let s = started(table, memory);
     let a = child(s, table, memory, 0);
-    let b = grandchild(a.state, table, memory, first_token(a));
+    let b = grandchild(after(a), table, memory, first_token(a));
     let s = shown(
         b"drop the child at count 2",
-        b.state.drop(table, memory, first_token(a)),
+        after(b).drop(table, memory, first_token(a)),
     );
     let s = shown(
         b"drop the grandchild",
@@ -142,7 +145,7 @@ fn locked(table: &mut [u8], memory: &[u8]) {
     let a = child(s, table, memory, 0);
     let s = shown(
         b"lock through the child",
-        a.state.lock(table, memory, first_token(a), 7),
+        after(a).lock(table, memory, first_token(a), 7),
     );
     let s = shown(
         b"drop it under the lock",

@@ -14,10 +14,11 @@ use Rattle.tokens.specs.Permissions.{within}
 use Rattle.bits.specs.SipHash.{absorb, add64, compress, finish, padded, rotl, siphash, sipRound, word}
 use Rattle.layout.specs.Tag.{tagOf}
 use Rattle.layout.specs.declared.entry.Entry.{Entry}
+use Rattle.machine.specs.Demand3 as claim
 use Rattle.machine.specs.Demand3.{above, Accepted, Alike, Closed, Demand3, In, issuedIn, itself, LockedFor, NoReset, Secret}
 use Rattle.machine.specs.Issuing.{passOver, seek}
 use Rattle.machine.specs.Line.{walk}
-use Rattle.machine.specs.Operations.{Name}
+use Rattle.machine.specs.Writes.{Name}
 use Rattle.machine.specs.Parts.{at, cleared, put, size}
 use Rattle.machine.specs.Requests.{Call, reading}
 use Rattle.machine.specs.Steps.{Answer, answer, decide, Machine, run, step}
@@ -47,11 +48,11 @@ unfolding before bytes number lowBytes lowNumber directNumber directOf entryNumb
 child-premises = (
   record {
     accepted = refl;
-    oneReset = (λ e. e, (λ e. e, tt));
+    oneReset = (elim [ ], (elim [ ], tt));
     locked = record { direct = refl; locked = refl; held = refl };
-    noReset = (λ e. e, tt);
+    noReset = (elim [ ], tt);
     noneCarries = (λ e. omega arith, tt);
-    revoked = record { before = (λ e. absurd e, tt); names = refl; accepted = refl };
+    revoked = record { before = (elim [ ], tt); names = claim.revokes refl; accepted = refl };
     whole = refl;
     given = List·Memᴰ·head refl;
     under = record { owner = 0; owns = above {n = 1} {m = 0} (record { indirect = refl; holds = refl }) (itself refl); byte = 2; theirs = omega arith; ours = omega arith };
@@ -114,11 +115,11 @@ unfolding before bytes number lowBytes lowNumber directNumber directOf entryNumb
 opens-again = (
   record {
     accepted = refl;
-    oneReset = (λ e. e, tt);
+    oneReset = (elim [ ], tt);
     locked = record { direct = refl; locked = refl; held = refl };
     noReset = tt;
     noneCarries = tt;
-    revoked = record { before = tt; names = refl; accepted = refl };
+    revoked = record { before = tt; names = claim.revokes refl; accepted = refl };
     whole = refl;
     given = List·Memᴰ·head refl;
     under = record { owner = 0; owns = itself refl; byte = 0; theirs = omega arith; ours = omega arith };

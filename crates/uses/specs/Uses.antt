@@ -5,7 +5,7 @@ use mathlib.Core.List.{List, [], _∷_, _++_, List·Memᴰ}
 use Prim.Native.Nat.{ℕ}
 use lib.ListN.{replicate, set}
 use Rattle.machine.specs.Demand3.{Accepted, FirstRevoke, LockedFor, NoneCarries, NoReset, resetCall, Under}
-use Rattle.machine.specs.Operations.{Name}
+use Rattle.machine.specs.Writes.{Name}
 use Rattle.machine.specs.Parts.{at}
 use Rattle.machine.specs.Requests.{access, Call, derive, lock, reading, Request, revoke}
 use Rattle.machine.specs.Steps.{decision, Machine, run, step}

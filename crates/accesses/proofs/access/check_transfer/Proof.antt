@@ -27,19 +27,19 @@ check-transfer-spec =
     (λ c κs. rw (c .read .ensures) (c .before .before .pre))
     (λ c κs. search needs)
     (λ c κs. search needs)
-    (λ c.
+    (λ c m u s b long.
     let e = c .before .before .before in
-    transfer-right _ _ _ _ _ (e .entry-at .result) (e .before .read .ensures) (e .entry-at .ensures) (right (c .before) _ (not-true _ (c .if1 .taken))))
+    transfer-right m s _ (wayAs (e .before .before .before .args .way)) _ u b _ long _ (e .entry-at .result) (e .before .read .ensures) (e .entry-at .ensures) (right (c .before) _ (not-true _ (c .if1 .taken))))
     (λ c. search needs)
     (λ c κs. search needs)
     (λ c. search needs)
     (λ c. omega (arith, room (c .before .before .before) (c .before .before .if2 .taken)))
-    (λ c.
+    (λ c m u s b long.
     let w = c .before .before .before .before .before .before in
     let e = w .before .before in
     let r = e .before in
-    (transfer-in _ _ _ _ _ (e .entry-at .result) (r .read .ensures) (e .entry-at .ensures) (right w _ (not-false _ (c .before .before .before .before .before .if1 .left))) (sym (c .before .before .before .inside .ensures) ∙ c .before .before .if2 .taken), rw (e .entry-at .ensures, r .read .ensures)))
-    (λ c.
+    (transfer-in m s _ (wayAs (e .before .before .before .args .way)) _ u b _ long _ (e .entry-at .result) (r .read .ensures) (e .entry-at .ensures) (right w _ (not-false _ (c .before .before .before .before .before .if1 .left))) (sym (c .before .before .before .inside .ensures) ∙ c .before .before .if2 .taken), rw (e .entry-at .ensures, r .read .ensures)))
+    (λ c m u s b long.
     let w = c .before .before .before .before in
     let e = w .before .before in
-    transfer-out _ _ _ _ _ (e .entry-at .result) (e .before .read .ensures) (e .entry-at .ensures) (right w _ (not-false _ (c .before .before .before .if1 .left))) (sym (c .before .inside .ensures) ∙ c .if2 .left)))
+    transfer-out m s _ (wayAs (e .before .before .before .args .way)) _ u b _ long _ (e .entry-at .result) (e .before .read .ensures) (e .entry-at .ensures) (right w _ (not-false _ (c .before .before .before .if1 .left))) (sym (c .before .inside .ensures) ∙ c .if2 .left)))

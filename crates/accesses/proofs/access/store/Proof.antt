@@ -1,7 +1,7 @@
 -- `accesses::access::store` meets its contract: the part of memory has the buffer's length.
 -- Assumes nothing.
 use borrow.Author.Needs.{needs}
-use Rattle.table.proofs.PartLaws.{part-sets}
+use Rattle.bits.proofs.PartLaws.{part-sets}
 use Rattle.accesses.proofs.access.store.Statement.{statement}
 use Rattle.accesses.proofs.access.store.Tie as tie
 

@@ -4,7 +4,8 @@ use mathlib.Core.Path.{_≡_}
 use lib.ListN.{length}
 use borrow.Author.Needs.{needs}
 use Rattle.machine.specs.Requests as request
-use Rattle.rulings.specs.Rulings.{issuerAs, verdictOn}
+use Rattle.table.specs.States.{stateAs}
+use Rattle.rulings.specs.Rulings.{verdictOn}
 use Rattle.rulings.proofs.RulingLaws.{decided-stop, effect-stop}
 use Rattle.accesses.specs.Ways.{Begins, startOf}
 use Rattle.accesses.specs.declared.access.Transfer.{Transfer}
@@ -14,14 +15,15 @@ use Rattle.accesses.proofs.access.write.Tie as tie
 
 -- what the checks come to
 checked : (c : tie.After-check-access) (r : Transfer) → c .check-access .result ≡ r
-    → let a = c .before .before .before .before .args in
-    Begins r (verdictOn (length (a .memory .now)) (issuerAs (a .s)) (a .table .now) (request.access request.writing (a .token) (a .task)) (a .buffer .now)) (startOf (a .table .now) (a .token))
-checked c r q = rw q at (c .check-access .ensures)
+    → let a = c .before .before .before .before .before .args in
+    Begins r (verdictOn (length (a .memory .now)) (stateAs (a .s)) (a .table .now) (request.access request.writing (a .token) (a .task)) (a .buffer .now)) (startOf (a .table .now) (a .token))
+checked c r q = rw q at (c .check-access .ensures _ (c .before .settings .ensures))
 
 pub write-spec : {M : Type 1} → statement M
 write-spec =
     tie.close
     (tie.spec
+    (λ c κs. search needs)
     (λ c κs. search needs)
     (λ c. search needs)
     (λ c κs. search needs)
@@ -30,7 +32,7 @@ write-spec =
     (λ c κs. search needs)
     (λ c.
     let v = checked (c .before .before .before .before) _ (c .before .before .r .given .1) in
-    (decided-stop _ _ _ _ _ _ _ (c .refused .ensures) v, rw (effect-stop _ _ _ _ _ _ _ v)))
+    (decided-stop _ _ _ _ _ _ _ (c .refused .ensures) v, rw (effect-stop _ _ _ _ _ v)))
     (λ c. search needs)
     (λ c.
     let q = checked (c .before .before .before .before .before .before .before .before) _ (c .before .before .before .before .before .before .r2 .given .1) in

@@ -4,7 +4,7 @@ use mathlib.Core.Path.{_≡_}
 use borrow.Author.Needs.{needs}
 use Rattle.machine.specs.Line.{lineOf}
 use Rattle.machine.specs.Operations.{numberOf}
-use Rattle.checks.specs.Answers.{liveVerdict, Reaches}
+use Rattle.checks.specs.Reached.{liveVerdict, Reaches}
 use Rattle.checks.specs.declared.reach.Reached.{Reached}
 use Rattle.checks.proofs.ReachLaws.{reach-locked, reach-open, reach-stop}
 use Rattle.checks.proofs.reach.reach.Statement.{statement}
@@ -24,7 +24,7 @@ reach-spec =
     (λ c. search needs)
     (λ c. search needs)
     (λ c κs. known (c .before .before .before) _ (c .before .r2 .given .1) .1 .1)
-    (λ c. reach-stop _ _ _ _ _ _ (known (c .before .before .before) _ (c .before .r .given .1)))
+    (λ c. reach-stop _ _ _ _ _ (known (c .before .before .before) _ (c .before .r .given .1)))
     (λ c.
     let e = c .before .before .before in
     let k = known (e .before .before .before .before) _ (e .before .before .r2 .given .1) in

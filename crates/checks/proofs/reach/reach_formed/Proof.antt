@@ -1,12 +1,12 @@
 -- `checks::reach::reach_formed` meets its contract: one law for each way out.
 -- Assumes nothing.
-use mathlib.Core.Path.{_≡_, _∙_, ap}
+use mathlib.Core.Path.{_≡_, sym, _∙_}
 use borrow.Author.Needs.{needs}
 use Rattle.machine.specs.Line.{lineOf}
 use Rattle.machine.specs.Operations.{numberOf}
-use Rattle.checks.specs.Answers.{liveVerdict, Reaches, refusalPlace, stopAs}
+use Rattle.checks.specs.Reached.{liveVerdict, Reaches}
 use Rattle.checks.specs.declared.reach.Reached.{Reached}
-use Rattle.checks.proofs.ReachLaws.{formed-dead, formed-stop, live-is-formed, not-dead}
+use Rattle.checks.proofs.ReachLaws.{formed-dead, formed-stop, live-is-formed}
 use Rattle.checks.proofs.reach.reach_formed.Statement.{statement}
 use Rattle.checks.proofs.reach.reach_formed.Tie as tie
 
@@ -22,16 +22,17 @@ reach-formed-spec =
     (tie.spec
     (λ c κs. search needs)
     (λ c. search needs)
-    (λ c. search needs)
+    (λ c κs. search needs)
     (λ c. search needs)
     (λ c κs. known (c .before .before .before) _ (c .before .r2 .given .1) .1 .1)
     (λ c.
-    let s = c .before .before .before in
-    formed-dead _ _ _ _ (known (s .before .before) _ (s .r .given .1) ∙ ap stopAs (c .enum-told .given .1)))
+    let w = c .before .before in
+    let s = w .before .before in
+    formed-dead _ _ _ _ (sym (w .told .ensures .0) ∙ c .if1 .taken) (known (s .before .before) _ (s .r .given .1)))
     (λ c.
-    let s = c .before .before in
-    let why = s .r .given .0 .0 in
-    formed-stop _ _ _ _ (refusalPlace why) (not-dead why (c .match2 .keys2)) (known (s .before .before) _ (s .r .given .1)))
+    let w = c .before .before in
+    let s = w .before .before in
+    formed-stop _ _ _ _ (λ e. c .if1 .left (w .told .ensures .0 ∙ e)) (known (s .before .before) _ (s .r .given .1)))
     (λ c.
     let s = c .before .before in
     let k = known (s .before .before) _ (s .r2 .given .1) in

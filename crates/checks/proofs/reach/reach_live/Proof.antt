@@ -4,9 +4,10 @@ use mathlib.Core.Path.{_≡_, sym, _∙_, ap}
 use mathlib.Core.Bool.{Bool, true}
 use borrow.Author.Needs.{needs}
 use borrow.Author.Tests.{not-false, not-true}
-use Rattle.machine.specs.Line.{lineOf}
+use Rattle.machine.specs.Line as line
 use Rattle.machine.specs.Operations.{numberOf}
 use Rattle.machine.specs.Steps.{stop}
+use Rattle.machine.specs.Stops.{atForm, atLine}
 use Rattle.table.specs.Lines.{lineAs}
 use Rattle.checks.specs.Holds.{namedHolds}
 use Rattle.checks.proofs.ReachLaws.{live-dead, live-ill, live-named, live-owner, named-in}
@@ -20,10 +21,10 @@ test c b q = sym (c .entry-named .ensures _ (c .before .read .ensures)) ∙ q
 named : (c : tie.Else1) → namedHolds (c .before .before .before .before .args .table .now) (c .before .before .before .before .args .k) ≡ true
 named c = test (c .before) _ (not-false _ (c .if1 .left))
 
-line : (c : tie.After-walk)
+line-of : (c : tie.After-walk)
     → let a = c .before .before .before .before .before .args in
-    lineOf (a .memory) (a .table .now) (numberOf (a .k)) ≡ lineAs (c .walk .result)
-line c = sym (rw (c .before .before .before .read .ensures) at (c .walk .ensures .0))
+    line.lineOf (a .memory) (a .table .now) (numberOf (a .k)) ≡ lineAs (c .walk .result)
+line-of c = sym (rw (c .before .before .before .read .ensures) at (c .walk .ensures .0))
 
 pub reach-live-spec : {M : Type 1} → statement M
 reach-live-spec =
@@ -40,11 +41,11 @@ reach-live-spec =
     (λ c κs. search needs)
     (λ c.
     let w = c .before .before .before in
-    let l = line w ∙ ap lineAs (c .before .l .given .1) in
-    (live-owner _ _ _ _ (named (w .before)) l, (l, (rw (c .before .l .given .1) at (w .walk .ensures .1)))))
+    let l = line-of w ∙ ap lineAs (c .before .l .given .1) in
+    (live-owner _ _ _ (named (w .before)) _ l, (l, rw (c .before .l .given .1) at (w .walk .ensures .1))))
     (λ c.
     let w = c .before .before .before .before in
-    live-dead _ _ _ _ (named (w .before)) (line w ∙ ap lineAs (c .before .before .l2 .given .1)) ∙ ap (stop 4) (sym (rw (w .before .before .before .read .ensures) at (c .place .ensures))))
+    live-dead _ _ _ (named (w .before)) _ (line-of w ∙ ap lineAs (c .before .before .l2 .given .1)) ∙ ap (λ (b : line.Bad). stop (atLine b)) (sym (rw (w .before .before .before .read .ensures) at (c .bad .ensures))))
     (λ c.
     let w = c .before .before .before .before in
-    live-ill _ _ _ _ (named (w .before)) (line w ∙ ap lineAs (c .before .before .l3 .given .1)) ∙ ap (stop 3) (sym (rw (w .before .before .before .read .ensures) at (c .place2 .ensures)))))
+    live-ill _ _ _ (named (w .before)) _ (line-of w ∙ ap lineAs (c .before .before .l3 .given .1)) ∙ ap (λ (b : line.Bad). stop (atForm b)) (sym (rw (w .before .before .before .read .ensures) at (c .bad2 .ensures)))))

@@ -8,4 +8,4 @@ use Rattle.checks.proofs.settings.settings.Tie as tie
 
 pub settings-spec : {M : Type 1} → statement M
 unfolding size sizesHold settingsHold
-settings-spec = tie.close (tie.spec (λ c κs. search needs) (λ c. rw (c .sizes .ensures)))
+settings-spec = tie.close (tie.spec (λ c κs. search needs) (λ c. rw (c .before .before .before .sizes .ensures)))

@@ -1,8 +1,8 @@
 -- `layout::entry::words_of` meets its contract: the type picks the arm.
 -- Assumes nothing.
-use mathlib.Core.Path.{_≡_, refl, sym, _∙_}
+use mathlib.Core.Path.{refl, sym, _∙_}
 use borrow.Author.Needs.{needs}
-use Rattle.layout.specs.Entry.{entryNumber, wordsNumber}
+use Rattle.layout.specs.Entry.{wordsNumber}
 use Rattle.layout.proofs.EntryLaws.{number-as, pack-other}
 use Rattle.layout.proofs.entry.words_of.Statement.{statement}
 use Rattle.layout.proofs.entry.words_of.Tie as tie

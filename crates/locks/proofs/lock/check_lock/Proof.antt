@@ -1,22 +1,24 @@
 -- `locks::lock::check_lock` meets its contract: Lockable is the one check more.
 -- Assumes nothing.
-use mathlib.Core.Path.{_≡_, refl, _∙_}
+use mathlib.Core.Path.{_≡_, _∙_}
+use mathlib.Core.List.{[]}
 use borrow.Author.Needs.{needs}
-use Rattle.checks.specs.Answers.{Reaches}
+use Rattle.checks.specs.Reached.{Reaches}
 use Rattle.checks.specs.declared.reach.Reached.{Reached}
 use Rattle.machine.specs.Line.{lineOf}
 use Rattle.machine.specs.Operations.{numberOf}
-use Rattle.machine.specs.Stops.{ownerLockable}
-use Rattle.locks.specs.Locks.{lockVerdict}
-use Rattle.rulings.specs.Rulings.{issuerAs}
-use Rattle.locks.proofs.LockLaws.{asked-fails, asked-passes, asked-stop, lock-check}
+use Rattle.machine.specs.Requests.{lock}
+use Rattle.table.specs.States.{stateAs}
+use Rattle.rulings.specs.Rulings.{firstOn}
+use Rattle.rulings.proofs.RulingLaws.{first-stop}
+use Rattle.locks.proofs.LockLaws.{lock-last}
 use Rattle.locks.proofs.lock.check_lock.Statement.{statement}
 use Rattle.locks.proofs.lock.check_lock.Tie as tie
 
 -- what is known of places 1 to 5, where they come to r
 known : (c : tie.After-reach-lock) (r : Reached) → c .reach-lock .result ≡ r
     → let a = c .before .before .args in
-    Reaches (a .table .now) r (lockVerdict (a .memory) (issuerAs (a .s)) (a .table .now) (a .token) (a .task)) (lineOf (a .memory) (a .table .now) (numberOf (a .token)))
+    Reaches (a .table .now) r (firstOn (a .memory) (stateAs (a .s)) (a .table .now) (lock (a .token) (a .task)) []) (lineOf (a .memory) (a .table .now) (numberOf (a .token)))
 known c r q = rw q at (c .reach-lock .ensures)
 
 pub check-lock-spec : {M : Type 1} → statement M
@@ -27,12 +29,12 @@ check-lock-spec =
     (λ c. search needs)
     (λ c. search needs)
     (λ c κs. known (c .before .before .before) _ (c .before .r2 .given .1) .1 .1)
-    (λ c. asked-stop _ _ _ _ _ _ (ownerLockable _ _ _) refl _ _ (known (c .before .before .before) _ (c .before .r .given .1)))
+    (λ c. first-stop _ _ _ _ _ (known (c .before .before .before) _ (c .before .r .given .1)))
     (λ c.
     let e = c .before in
     let k = known (e .before .before .before .before) _ (e .before .before .r2 .given .1) in
-    (asked-passes _ _ _ _ _ _ (ownerLockable _ _ _) refl (k .0) (lock-check _ _ _ _ (k .1 .0) (e .entry-at .result) (e .entry-at .ensures) ∙ c .if1 .taken), k .1))
+    (lock-last _ _ _ _ _ _ (k .1 .0) (e .entry-at .result) (e .entry-at .ensures) (k .0) ∙ rw (c .if1 .taken), k .1))
     (λ c.
     let e = c .before in
     let k = known (e .before .before .before .before) _ (e .before .before .r2 .given .1) in
-    asked-fails _ _ _ _ _ _ (ownerLockable _ _ _) refl (k .0) (lock-check _ _ _ _ (k .1 .0) (e .entry-at .result) (e .entry-at .ensures) ∙ c .if1 .left)))
+    lock-last _ _ _ _ _ _ (k .1 .0) (e .entry-at .result) (e .entry-at .ensures) (k .0) ∙ rw (c .if1 .left)))

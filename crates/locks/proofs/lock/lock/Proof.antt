@@ -4,12 +4,13 @@ use mathlib.Core.Path.{_≡_}
 use mathlib.Core.List.{[]}
 use lib.ListN.{length}
 use borrow.Author.Needs.{needs}
-use Rattle.checks.specs.Answers.{Reaches}
+use Rattle.checks.specs.Reached.{Reaches}
 use Rattle.checks.specs.declared.reach.Reached.{Reached}
 use Rattle.machine.specs.Line.{lineOf}
 use Rattle.machine.specs.Operations.{numberOf}
 use Rattle.machine.specs.Requests.{lock}
-use Rattle.rulings.specs.Rulings.{issuerAs, verdictOn}
+use Rattle.table.specs.States.{stateAs}
+use Rattle.rulings.specs.Rulings.{verdictOn}
 use Rattle.locks.proofs.LockLaws.{lock-grants, lock-task}
 use Rattle.rulings.proofs.RulingLaws.{decided-pass, decided-stop}
 use Rattle.locks.proofs.lock.lock.Statement.{statement}
@@ -18,7 +19,7 @@ use Rattle.locks.proofs.lock.lock.Tie as tie
 -- what is known of the checks, where they come to r
 known : (c : tie.After-check-lock) (r : Reached) → c .check-lock .result ≡ r
     → let a = c .before .before .before .before .args in
-    Reaches (a .table .now) r (verdictOn (length (a .memory .now)) (issuerAs (a .s)) (a .table .now) (lock (a .token) (a .task)) []) (lineOf (length (a .memory .now)) (a .table .now) (numberOf (a .token)))
+    Reaches (a .table .now) r (verdictOn (length (a .memory .now)) (stateAs (a .s)) (a .table .now) (lock (a .token) (a .task)) []) (lineOf (length (a .memory .now)) (a .table .now) (numberOf (a .token)))
 known c r q = rw q at (c .check-lock .ensures)
 
 pub lock-spec : {M : Type 1} → statement M
@@ -36,4 +37,4 @@ lock-spec =
     (λ c.
     let g = c .before .before in
     let k = known (g .before .before .before .before .before) _ (g .before .before .before .r2 .given .1) in
-    decided-pass _ _ _ _ _ _ (lock-grants _ _ _ _ _ _ (k .1 .0) _ (g .relock .ensures)) (k .0)))
+    decided-pass _ _ _ _ _ _ (lock-grants _ _ _ _ _ _ (k .1 .0) _ (g .relock-at .ensures)) (k .0)))

@@ -5,12 +5,13 @@ use mathlib.Core.List.{[]}
 use native.Mathlib.Omega.{arith}
 use lib.ListN.{length}
 use borrow.Author.Needs.{needs}
-use Rattle.checks.specs.Answers.{Reaches}
+use Rattle.checks.specs.Reached.{Reaches}
 use Rattle.checks.specs.declared.reach.Reached.{Reached}
 use Rattle.machine.specs.Line.{lineOf}
 use Rattle.machine.specs.Operations.{numberOf}
 use Rattle.machine.specs.Requests.{unlock}
-use Rattle.rulings.specs.Rulings.{issuerAs, verdictOn}
+use Rattle.table.specs.States.{stateAs}
+use Rattle.rulings.specs.Rulings.{verdictOn}
 use Rattle.locks.proofs.LockLaws.{unlock-grants}
 use Rattle.rulings.proofs.RulingLaws.{decided-pass, decided-stop}
 use Rattle.locks.proofs.lock.unlock.Statement.{statement}
@@ -19,7 +20,7 @@ use Rattle.locks.proofs.lock.unlock.Tie as tie
 -- what is known of the checks, where they come to r
 known : (c : tie.After-check-unlock) (r : Reached) → c .check-unlock .result ≡ r
     → let a = c .before .before .before .before .args in
-    Reaches (a .table .now) r (verdictOn (length (a .memory .now)) (issuerAs (a .s)) (a .table .now) (unlock (a .token) (a .task)) []) (lineOf (length (a .memory .now)) (a .table .now) (numberOf (a .token)))
+    Reaches (a .table .now) r (verdictOn (length (a .memory .now)) (stateAs (a .s)) (a .table .now) (unlock (a .token) (a .task)) []) (lineOf (length (a .memory .now)) (a .table .now) (numberOf (a .token)))
 known c r q = rw q at (c .check-unlock .ensures)
 
 pub unlock-spec : {M : Type 1} → statement M
@@ -37,4 +38,4 @@ unlock-spec =
     (λ c.
     let g = c .before .before in
     let k = known (g .before .before .before .before .before) _ (g .before .before .before .r2 .given .1) in
-    decided-pass _ _ _ _ _ _ (unlock-grants _ _ _ _ _ _ (k .1 .0) _ (g .relock .ensures)) (k .0)))
+    decided-pass _ _ _ _ _ _ (unlock-grants _ _ _ _ _ _ (k .1 .0) _ (g .relock-at .ensures)) (k .0)))

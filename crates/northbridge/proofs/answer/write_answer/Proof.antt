@@ -1,9 +1,11 @@
--- `northbridge::answer::write_answer` meets its contract: the reply is the answer's.
+-- `northbridge::answer::write_answer` meets its contract: the words are the reply's.
 -- Assumes nothing.
 use mathlib.Core.Path.{_∙_, ap}
+use mathlib.Core.List.{List}
+use Prim.Native.Nat.{ℕ}
 use borrow.Author.Needs.{needs}
-use Rattle.machine.specs.Operations.{Reply}
-use Rattle.northbridge.specs.Exported.{answerBytes}
+use lib.ListN.{getD}
+use Rattle.northbridge.specs.Exported.{wordBytes}
 use Rattle.northbridge.proofs.answer.write_answer.Statement.{statement}
 use Rattle.northbridge.proofs.answer.write_answer.Tie as tie
 
@@ -12,9 +14,10 @@ write-answer-spec =
     tie.close
     (tie.spec
     (λ c κs. search needs)
+    (λ c. search needs)
     (λ c κs. search needs)
     (λ c. search needs)
     (λ c.
     let w = c .before .before in
-    let e = w .before .before .reply-of .ensures in
-    (ap (λ (r : Reply). r .refusal) e, w .write-reply .ensures ∙ ap answerBytes e)))
+    let e = w .before .before .before .words-of .ensures in
+    (ap (λ (ws : List ℕ). getD ws 0 0) e, w .put-words .ensures ∙ ap wordBytes e)))

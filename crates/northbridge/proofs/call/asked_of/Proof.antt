@@ -1,6 +1,5 @@
 -- `northbridge::call::asked_of` meets its contract: the sizes pick the answer.
 -- Assumes nothing.
-use borrow.Author.Needs.{needs}
 use Rattle.northbridge.specs.Exported.{asked}
 use Rattle.northbridge.proofs.CallLaws.{sizes}
 use Rattle.northbridge.proofs.call.asked_of.Statement.{statement}

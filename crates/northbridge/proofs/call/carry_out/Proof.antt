@@ -21,7 +21,7 @@ carry-out-spec =
     (λ c.
     let w = c .before .before in
     let s = w .before .before .before .before in
-    let r = s .before .before .before .before .before .before .before .before .before .before in
+    let r = s .before .before .before .before .before .before .before .before .before in
     let e = r .before .before .before .before in
     let a = e .before .before .before .before .before .before .before .args in
-    step-carried _ _ _ _ _ (a .answer .now) _ (r .serve .result) _ _ _ _ _ _ (e .read-state .ensures) (r .serve .ensures) (s .write-state .ensures) (w .write-answer .ensures)))
+    step-carried _ _ _ _ _ (a .answer .now) (e .read-state .result) (r .serve .result) _ _ _ _ _ _ (e .read-state .ensures) (r .serve .ensures) (s .write-state .ensures) (w .write-answer .ensures)))

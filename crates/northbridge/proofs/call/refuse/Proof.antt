@@ -3,7 +3,7 @@
 use mathlib.Core.Path.{refl}
 use borrow.Author.Needs.{needs}
 use borrow.Author.Tests.{eq-eqb, ne-eqb}
-use Rattle.northbridge.specs.Exported.{told}
+use Rattle.northbridge.specs.Exported.{answerSize, told}
 use Rattle.northbridge.proofs.call.refuse.Statement.{statement}
 use Rattle.northbridge.proofs.call.refuse.Tie as tie
 
@@ -16,5 +16,5 @@ refuse-spec =
     (λ c. search needs)
     (λ c.
     let w = c .before .before in
-    rw (eq-eqb _ 40 (w .before .before .if1 .taken)) (w .write-answer .ensures))
-    (λ c. rw (ne-eqb _ 40 (c .if1 .left)) (refl, refl)))
+    rw (eq-eqb _ answerSize (w .before .before .if1 .taken)) (w .write-answer .ensures))
+    (λ c. rw (ne-eqb _ answerSize (c .if1 .left)) (refl, refl)))

@@ -10,5 +10,5 @@ allot-child-spec =
     tie.close
     (tie.spec
     (λ c κs. search needs)
-    (λ c. rw (child-allot _ _ _ (c .before .if1 .taken)) (c .allot .ensures))
-    (λ c. child-count _ _ _ (c .if1 .left)))
+    (λ c. rw (child-allot _ _ (c .before .before .before .before .args .e) (c .before .if1 .taken)) (c .allot .ensures))
+    (λ c. child-count _ _ (c .before .before .before .args .e) (c .if1 .left)))

@@ -3,7 +3,6 @@
 use Prim.Native.Nat.{_<_}
 use native.Mathlib.Omega.{arith}
 use borrow.Author.Needs.{needs}
-use Rattle.layout.specs.Entry.{entryOf, wordsNumber}
 use Rattle.references.proofs.CloneLaws.{clone-few, clone-grants, clone-in}
 use Rattle.references.proofs.clone.grant_clone.Statement.{statement}
 use Rattle.references.proofs.clone.grant_clone.Tie as tie
@@ -19,15 +18,13 @@ grant-clone-spec =
     let w = c .before .before in
     let few : c .count-of .result < 65535 = rw (c .count-of .ensures, w .words-at .ensures, w .before .before .read .ensures) (clone-few _ _ _ _ (w .before .before .before .before .pre)) in
     omega (arith, few))
-    (λ c κs. search needs)
     (λ c κs.
-    let w = c .before .before .before in
+    let w = c .before .before in
     rw (w .before .before .read .ensures) (clone-in _ _ _ _ (w .before .before .before .before .pre)))
     (λ c κs. search needs)
     (λ c. search needs)
     (λ c.
-    let p = c .before .before .before in
-    let k = p .before .before in
+    let k = c .before .before .before .before in
     let w = k .before .before in
     let r = w .before .before in
-    clone-grants _ _ _ _ (r .read .result) (entryOf (wordsNumber (w .words-at .result))) _ _ (r .read .ensures) (w .words-at .ensures) (p .put-words .ensures _ (rw (k .count-of .ensures) at (p .before .recounted .ensures))) (c .plain .ensures)))
+    clone-grants _ _ _ _ (r .read .result) _ _ _ (r .read .ensures) (rw (w .words-at .ensures) at (k .count-of .ensures)) (rw (w .words-at .ensures) at (c .before .before .before .recount .ensures)) (c .plain .ensures)))

@@ -6,7 +6,8 @@ use lib.ListN.{length}
 use borrow.Author.Needs.{needs}
 use Rattle.machine.specs.Requests.{derive}
 use Rattle.rulings.specs.Allotments.{Allots}
-use Rattle.rulings.specs.Rulings.{issuerAs, verdictOn}
+use Rattle.rulings.specs.Rulings.{verdictOn}
+use Rattle.table.specs.States.{stateAs}
 use Rattle.rulings.specs.declared.allot.Allotted.{Allotted}
 use Rattle.rulings.proofs.RulingLaws.{decided-pass, decided-stop}
 use Rattle.references.proofs.derive.derive.Statement.{statement}
@@ -15,7 +16,7 @@ use Rattle.references.proofs.derive.derive.Tie as tie
 -- what the checks come to
 checked : (c : tie.After-check-derive) (r : Allotted) → c .check-derive .result ≡ r
     → let a = c .before .before .before .before .args in
-    Allots (issuerAs (a .s)) (a .table .now) r (verdictOn (length (a .memory .now)) (issuerAs (a .s)) (a .table .now) (derive (a .token) (a .offset) (a .length) (a .permissions) (a .encoding)) [])
+    Allots (stateAs (a .s)) (a .table .now) r (verdictOn (length (a .memory .now)) (stateAs (a .s)) (a .table .now) (derive (a .token) (a .offset) (a .length) (a .permissions) (a .encoding)) [])
 checked c r q = rw q at (c .check-derive .ensures)
 
 pub derive-spec : {M : Type 1} → statement M

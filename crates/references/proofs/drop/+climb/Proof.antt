@@ -1,19 +1,17 @@
 -- `references::drop::climb` meets its contract: one law for each way out. The nonce falls at each link.
 -- Assumes nothing.
-use mathlib.Core.Path.{refl, _∙_}
+use mathlib.Core.Path.{_∙_}
 use Prim.Native.Nat.{ℕ, _<_}
 use borrow.Author.Needs.{needs}
 use borrow.Fn.Kinds.{In}
 use borrow.Fn.PlainCycle.{Measures, is, falls, and}
-use Rattle.layout.proofs.entry.free_words.Reads as free-words-reads
-use Rattle.layout.proofs.entry.recounted.Reads as recounted-reads
-use Rattle.layout.specs.Entry.{free}
 use Rattle.machine.specs.Parts.{at}
 use Rattle.table.proofs.entries.entry_at.Reads as entry-at-reads
-use Rattle.table.proofs.entries.put_words.Reads as put-words-reads
 use Rattle.table.proofs.entries.words_at.Reads as words-at-reads
 use Rattle.table.proofs.line.linked.Reads as linked-reads
 use Rattle.table.proofs.line.parent_number.Reads as parent-number-reads
+use Rattle.table.proofs.writes.recount.Reads as recount-reads
+use Rattle.table.proofs.writes.vacate.Reads as vacate-reads
 use Rattle.references.proofs.DropLaws.{climb-freed, climb-less, climb-none, climb-on, climb-up, Lost}
 use Rattle.references.proofs.drop.climb.Reads as climb
 use Rattle.references.proofs.drop.climb.Kinds as climb-kinds
@@ -36,14 +34,12 @@ asked t = (
   entry-at-reads.Learnt,
   words-at-reads.Asked,
   words-at-reads.Learnt,
-  recounted-reads.Asked,
-  recounted-reads.Learnt,
-  put-words-reads.Asked,
-  put-words-reads.Learnt,
+  recount-reads.Asked,
+  recount-reads.Learnt,
   linked-reads.Asked,
   linked-reads.Learnt,
-  free-words-reads.Asked,
-  free-words-reads.Learnt,
+  vacate-reads.Asked,
+  vacate-reads.Learnt,
   parent-number-reads.Asked,
   parent-number-reads.Learnt,
   climb-below t,
@@ -64,30 +60,28 @@ pub +climb-spec : {M : Type 1} → statement M
     climb.Post
     (λ c κs. search needs)
     (λ c. search needs)
-    (λ c. let e = c .before .before in climb-none _ _ (e .entry-at .result) (e .entry-at .ensures) (c .if1 .taken))
+    (λ c s. let e = c .before .before in climb-none _ _ (e .entry-at .result) (e .entry-at .ensures) s (c .if1 .taken))
     (λ c κs. search needs)
     (λ c. search needs)
     (λ c κs. search needs)
-    (λ c κs. search needs)
     (λ c. search needs)
-    (λ c.
-    let p = c .before .before in
-    let w = p .before .before .before in
+    (λ c s.
+    let w = c .before .before .before .before in
     let l = w .before .before .before in
     let e = l .before .before .before .before .before in
-    p .put-words .ensures _ (rw (w .words-at .ensures, ← e .entry-at .ensures) at (p .before .recounted .ensures)) ∙ climb-less _ _ (e .entry-at .result) (e .entry-at .ensures) (l .before .before .before .if1 .left) (l .if2 .taken))
-    (λ c κs. search needs)
+    (rw (w .words-at .ensures, ← e .entry-at .ensures) at (c .before .before .recount .ensures))
+    ∙ climb-less _ _ (e .entry-at .result) (e .entry-at .ensures) s (l .before .before .before .if1 .left) (l .if2 .taken))
     (λ c κs. search needs)
     (λ c κs. search needs)
     (λ c κs. search needs)
     (λ c κs.
-    let p = c .before .before .before .before .before in
-    let l = p .before .before .before in
-    rw (← l .before .before .before .before .before .before .before .before .before .before .pre .0) (climb-on (lost t l) refl (p .put-words2 .ensures free (p .before .free-words .ensures)) (c .parent-number .ensures) (c .before .before .if3 .taken)))
+    let v = c .before .before .before .before .before in
+    let l = v .before .before in
+    rw (← l .before .before .before .before .before .before .before .before .before .before .pre .0) (climb-on (lost t l) (v .vacate .ensures) (c .parent-number .ensures) (c .before .before .if3 .taken)))
     (λ c. search needs)
     (λ c.
     let k = c .before .before .before in
-    let p = k .before .before .before .before .before in
-    c .before .before .climb .ensures ∙ climb-up (lost t (p .before .before .before)) refl (p .put-words2 .ensures free (p .before .free-words .ensures)) (k .parent-number .ensures) (k .before .before .if3 .taken))
+    let v = k .before .before .before .before .before in
+    climb-up (lost t (v .before .before)) (v .vacate .ensures) (k .parent-number .ensures) (k .before .before .if3 .taken) (c .before .before .climb .ensures))
     (λ c. search needs)
-    (λ c. let p = c .before .before .before in climb-freed (lost t (p .before .before .before)) refl (p .put-words2 .ensures free (p .before .free-words .ensures)) (c .if3 .left))
+    (λ c. let v = c .before .before .before in climb-freed (lost t (v .before .before)) (v .vacate .ensures) (c .if3 .left))

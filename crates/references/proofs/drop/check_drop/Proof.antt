@@ -1,24 +1,28 @@
 -- `references::drop::check_drop` meets its contract: a law for each way out.
 -- Assumes nothing.
-use mathlib.Core.Path.{_≡_}
-use mathlib.Core.Bool.{true, _&&_}
+use mathlib.Core.Path.{_≡_, sym, _∙_}
+use mathlib.Core.Bool.{Bool, _&&_}
+use mathlib.Core.List.{[]}
 use borrow.Author.Needs.{needs}
 use lib.Dec.{eqb}
 use Rattle.machine.specs.Line.{isLocked, lineOf}
 use Rattle.machine.specs.Operations.{numberOf}
-use Rattle.checks.specs.Answers.{formedVerdict, Forms}
-use Rattle.checks.specs.Holds.{settingsHold}
+use Rattle.machine.specs.Requests.{release}
+use Rattle.checks.specs.Holds.{requestHolds}
+use Rattle.checks.specs.Reached.{formedVerdict, Forms}
 use Rattle.checks.specs.declared.reach.Formed.{Formed}
 use Rattle.checks.proofs.ReachLaws.{formed-in}
+use Rattle.table.specs.States.{stateAs}
+use Rattle.rulings.proofs.RulingLaws.{request-stops, token-stops}
 use Rattle.references.proofs.DropLaws.{drop-count, drop-pass, drop-request, drop-token}
 use Rattle.references.proofs.drop.check_drop.Statement.{statement}
 use Rattle.references.proofs.drop.check_drop.Tie as tie
 
--- place 1 holds, and what the token comes to
-first : (c : tie.Then1)
-    → let a = c .before .before .before .before .before .args in
-    (settingsHold (a .memory) (a .table .now) (a .s .last) (a .s .next) && eqb (c .before .before .before .read .result .offset) 0) ≡ true
-first c = rw (c .before .before .settings .ensures) at (c .if1 .taken)
+-- place 1, as the test says, and what the token comes to
+asked : (c : tie.After-settings) (b : Bool) → (c .settings .result && eqb (c .before .read .result .offset) 0) ≡ b
+    → let a = c .before .before .before .args in
+    requestHolds (a .memory) (stateAs (a .s)) (a .table .now) (release (a .token)) [] ≡ b
+asked c b h = sym (drop-request _ _ _ _ _ (c .before .read .ensures)) ∙ rw (c .settings .ensures) at h
 
 token : (c : tie.After-reach-formed) (r : Formed) → c .reach-formed .result ≡ r
     → let a = c .before .before .before .before .before .before .args in
@@ -35,14 +39,18 @@ check-drop-spec =
     (λ c. search needs)
     (λ c. search needs)
     (λ c κs. let l = c .before .before .before in rw (l .before .before .before .before .read .ensures) (formed-in _ _ _ (token l _ (c .before .r2 .given .1) .0)))
-    (λ c. let l = c .before .before .before in drop-token _ _ _ _ _ (l .before .before .before .before .read .ensures) (first (l .before)) _ _ (token l _ (c .before .r .given .1)))
+    (λ c.
+    let l = c .before .before .before in
+    token-stops _ _ _ _ _ (asked (l .before .before .before) _ (l .before .if1 .taken)) (drop-token _ _ _ _ (token l _ (c .before .r .given .1))))
     (λ c.
     let e = c .before .before in
     let l = e .before .before .before .before in
-    drop-count _ _ _ _ _ (l .before .before .before .before .read .ensures) (first (l .before)) (e .entry-at .result) (token l _ (e .before .before .r2 .given .1) .0) (e .entry-at .ensures) (c .if2 .taken))
+    let s = l .before .before .before in
+    drop-count _ _ _ _ _ (s .before .read .ensures) (e .entry-at .result) (e .entry-at .ensures) (asked s _ (l .before .if1 .taken)) (token l _ (e .before .before .r2 .given .1) .0) (c .if2 .taken))
     (λ c.
     let e = c .before .before in
     let l = e .before .before .before .before in
+    let s = l .before .before .before in
     let k = token l _ (e .before .before .r2 .given .1) in
-    (drop-pass _ _ _ _ _ (l .before .before .before .before .read .ensures) (first (l .before)) (e .entry-at .result) (k .0) (e .entry-at .ensures) (c .if2 .left), k .1))
-    (λ c. drop-request _ _ _ _ _ (c .before .before .before .read .ensures) (rw (c .before .before .settings .ensures) at (c .if1 .left))))
+    (drop-pass _ _ _ _ _ (s .before .read .ensures) (e .entry-at .result) (e .entry-at .ensures) (asked s _ (l .before .if1 .taken)) (k .0) (c .if2 .left), k .1))
+    (λ c. request-stops _ _ _ _ _ (asked (c .before .before) _ (c .if1 .left))))

@@ -4,12 +4,13 @@ use mathlib.Core.Path.{_≡_}
 use mathlib.Core.List.{[]}
 use borrow.Author.Needs.{needs}
 use lib.ListN.{length}
-use Rattle.checks.specs.Answers.{Forms}
+use Rattle.checks.specs.Reached.{Forms}
 use Rattle.checks.specs.declared.reach.Formed.{Formed}
 use Rattle.machine.specs.Line.{isLocked, lineOf}
 use Rattle.machine.specs.Operations.{numberOf}
 use Rattle.machine.specs.Requests.{release}
-use Rattle.rulings.specs.Rulings.{issuerAs, verdictOn}
+use Rattle.rulings.specs.Rulings.{verdictOn}
+use Rattle.table.specs.States.{stateAs}
 use Rattle.rulings.proofs.RulingLaws.{decided-pass, decided-stop}
 use Rattle.references.proofs.drop.drop.Statement.{statement}
 use Rattle.references.proofs.drop.drop.Tie as tie
@@ -17,7 +18,7 @@ use Rattle.references.proofs.drop.drop.Tie as tie
 -- what the checks come to
 known : (c : tie.After-check-drop) (r : Formed) → c .check-drop .result ≡ r
     → let a = c .before .before .before .before .args in
-    Forms r (verdictOn (length (a .memory .now)) (issuerAs (a .s)) (a .table .now) (release (a .token)) []) (isLocked (a .table .now) (lineOf (length (a .memory .now)) (a .table .now) (numberOf (a .token))))
+    Forms r (verdictOn (length (a .memory .now)) (stateAs (a .s)) (a .table .now) (release (a .token)) []) (isLocked (a .table .now) (lineOf (length (a .memory .now)) (a .table .now) (numberOf (a .token))))
 known c r q = rw q at (c .check-drop .ensures)
 
 pub drop-spec : {M : Type 1} → statement M

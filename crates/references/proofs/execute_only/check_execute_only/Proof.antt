@@ -1,25 +1,29 @@
--- `references::execute_only::check_execute_only` meets its contract: one law for each way out.
+-- `references::execute_only::check_execute_only` meets its contract: a law for each way out.
 -- Assumes nothing.
-use mathlib.Core.Path.{_≡_}
-use mathlib.Core.Bool.{true, _&&_}
+use mathlib.Core.Path.{_≡_, sym, _∙_}
+use mathlib.Core.Bool.{Bool, _&&_}
+use mathlib.Core.List.{[]}
 use borrow.Author.Needs.{needs}
 use lib.Dec.{eqb, leb}
 use Rattle.machine.specs.Line.{lineOf}
 use Rattle.machine.specs.Operations.{numberOf}
-use Rattle.checks.specs.Answers.{liveVerdict, Reaches}
-use Rattle.checks.specs.Holds.{settingsHold}
+use Rattle.machine.specs.Requests.{executeOnly}
+use Rattle.checks.specs.Holds.{requestHolds}
+use Rattle.checks.specs.Reached.{liveVerdict, Reaches}
 use Rattle.checks.specs.declared.reach.Reached.{Reached}
 use Rattle.checks.proofs.ReachLaws.{live-in}
-use Rattle.rulings.specs.Rulings.{issuerAs}
-use Rattle.references.proofs.ExecuteOnlyLaws.{execute-child, execute-request, execute-right, execute-settled, execute-token}
+use Rattle.table.specs.States.{stateAs}
+use Rattle.rulings.proofs.RulingLaws.{request-stops, token-stops}
+use Rattle.references.proofs.ExecuteOnlyLaws.{execute-child, execute-limits, execute-request, execute-right, execute-token}
 use Rattle.references.proofs.execute_only.check_execute_only.Statement.{statement}
 use Rattle.references.proofs.execute_only.check_execute_only.Tie as tie
 
--- place 1 holds, and what the token comes to
-first : (c : tie.Then1)
-    → let a = c .before .before .before .before .before .args in
-    (settingsHold (a .memory) (a .table .now) (a .s .last) (a .s .next) && leb (a .encoding) 3 && eqb (c .before .before .before .read .result .offset) 0) ≡ true
-first c = rw (c .before .before .settings .ensures) at (c .if1 .taken)
+-- place 1, as the test says, and what the token comes to
+asked : (c : tie.After-settings) (b : Bool)
+    → let a = c .before .before .before .args in
+    (c .settings .result && leb (a .encoding) 3 && eqb (c .before .read .result .offset) 0) ≡ b
+    → requestHolds (a .memory) (stateAs (a .s)) (a .table .now) (executeOnly (a .token) (a .encoding)) [] ≡ b
+asked c b h = sym (execute-request _ _ _ _ _ _ (c .before .read .ensures)) ∙ rw (c .settings .ensures) at h
 
 token : (c : tie.After-reach-live) (r : Reached) → c .reach-live .result ≡ r
     → let a = c .before .before .before .before .before .before .args in
@@ -37,22 +41,22 @@ check-execute-only-spec =
     (λ c. search needs)
     (λ c κs. let l = c .before .before in rw (l .before .before .before .before .read .ensures) (live-in _ _ _ (token l _ (c .enum-told .given .1) .0)))
     (λ c κs. search needs)
-    (λ c κs.
-    let l = c .before .before .before .before .before in
-    let s = l .before .before .before .before .before .before in
-    execute-settled (s .args .memory) (issuerAs (s .args .s)) (s .args .table .now) (s .args .token) (s .args .encoding) _ (l .before .before .before .before .read .ensures) (first (l .before)))
-    (λ c. let l = c .before .before .before in execute-token _ _ _ _ _ _ (l .before .before .before .before .read .ensures) (first (l .before)) _ _ (token l _ (c .before .r .given .1)))
+    (λ c κs. let l = c .before .before .before .before .before in execute-limits _ _ _ _ _ (asked (l .before .before .before) _ (l .before .if1 .taken)))
+    (λ c.
+    let l = c .before .before .before in
+    token-stops _ _ _ _ _ (asked (l .before .before .before) _ (l .before .if1 .taken)) (execute-token _ _ _ _ _ (token l _ (c .before .r .given .1))))
     (λ c.
     let w = c .before .before in
     let e = w .before in
     let l = e .before .before .before in
-    let s = l .before .before .before .before .before .before in
+    let s = l .before .before .before in
     rw
-    (execute-child (s .args .memory) (issuerAs (s .args .s)) (s .args .table .now) (s .args .token) (s .args .encoding) _ (l .before .before .before .before .read .ensures) (first (l .before)) (e .entry-at .result) _ (token l _ (e .before .enum-told .given .1) .0) (e .entry-at .ensures) (w .within .ensures) (c .before .if2 .taken))
+    (execute-child _ _ _ _ _ _ (e .entry-at .result) _ (s .before .read .ensures) (e .entry-at .ensures) (w .within .ensures) (asked s _ (l .before .if1 .taken)) (token l _ (e .before .enum-told .given .1) .0) (c .before .if2 .taken))
     (c .allot-child .ensures))
     (λ c.
     let w = c .before in
     let e = w .before in
     let l = e .before .before .before in
-    execute-right _ _ _ _ _ _ (l .before .before .before .before .read .ensures) (first (l .before)) (e .entry-at .result) _ (token l _ (e .before .enum-told .given .1) .0) (e .entry-at .ensures) (w .within .ensures) (c .if2 .left))
-    (λ c. execute-request _ _ _ _ _ _ (c .before .before .before .read .ensures) (rw (c .before .before .settings .ensures) at (c .if1 .left))))
+    let s = l .before .before .before in
+    execute-right _ _ _ _ _ _ (e .entry-at .result) _ (s .before .read .ensures) (e .entry-at .ensures) (w .within .ensures) (asked s _ (l .before .if1 .taken)) (token l _ (e .before .enum-told .given .1) .0) (c .if2 .left))
+    (λ c. request-stops _ _ _ _ _ (asked (c .before .before) _ (c .if1 .left))))

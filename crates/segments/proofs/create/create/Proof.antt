@@ -4,9 +4,10 @@ use mathlib.Core.Path.{_≡_}
 use mathlib.Core.List.{[]}
 use lib.ListN.{length}
 use borrow.Author.Needs.{needs}
-use Rattle.machine.specs.Requests.{create}
+use Rattle.machine.specs.Requests as request
+use Rattle.table.specs.States.{stateAs}
 use Rattle.rulings.specs.Allotments.{Allots}
-use Rattle.rulings.specs.Rulings.{issuerAs, verdictOn}
+use Rattle.rulings.specs.Rulings.{verdictOn}
 use Rattle.rulings.specs.declared.allot.Allotted.{Allotted}
 use Rattle.rulings.proofs.RulingLaws.{decided-pass, decided-stop}
 use Rattle.segments.proofs.create.create.Statement.{statement}
@@ -15,7 +16,7 @@ use Rattle.segments.proofs.create.create.Tie as tie
 -- what the checks come to
 checked : (c : tie.After-check-create) (r : Allotted) → c .check-create .result ≡ r
     → let a = c .before .before .before .before .args in
-    Allots (issuerAs (a .s)) (a .table .now) r (verdictOn (length (a .memory .now)) (issuerAs (a .s)) (a .table .now) (create (a .token) (a .task) (a .length) (a .user) (a .permissions) (a .encoding)) [])
+    Allots (stateAs (a .s)) (a .table .now) r (verdictOn (length (a .memory .now)) (stateAs (a .s)) (a .table .now) (request.create (a .token) (a .task) (a .length) (a .user) (a .permissions) (a .encoding)) [])
 checked c r q = rw q at (c .check-create .ensures)
 
 pub create-spec : {M : Type 1} → statement M
@@ -34,4 +35,4 @@ create-spec =
     let g = c .before .before in
     let r = g .before .before .before in
     let a = r .before .before .before .before .before .before .args in
-    decided-pass _ _ _ (create (a .token) (a .task) (a .length) (a .user) (a .permissions) (a .encoding)) _ _ (g .grant-create .ensures) (checked (r .before .before) _ (r .r2 .given .1) .0)))
+    decided-pass _ _ _ (request.create (a .token) (a .task) (a .length) (a .user) (a .permissions) (a .encoding)) _ _ (g .grant-create .ensures) (checked (r .before .before) _ (r .r2 .given .1) .0)))

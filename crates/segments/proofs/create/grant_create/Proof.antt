@@ -1,43 +1,64 @@
--- `segments::create::grant_create` meets its contract: the part lies in the segment, so that its numbers fit.
+-- `segments::create::grant_create` meets its contract: the part lies in the segment, so that its numbers fit, and so do the rest's.
 -- Assumes nothing.
 use native.Mathlib.Omega.{arith}
 use borrow.Author.Needs.{needs}
 use Rattle.layout.proofs.EntryLaws.{direct-fits}
-use Rattle.machine.specs.Operations.{numberOf}
-use Rattle.segments.specs.Creations.{Parting}
-use Rattle.rulings.specs.Rulings.{issuerAs}
-use Rattle.segments.proofs.CreateLaws.{create-grants, create-parts, part-nonce, parted}
+use Rattle.table.specs.States.{stateAs}
+use Rattle.segments.proofs.CreateLaws.{create-in, create-rest, create-whole, Parting, parting, rest-in, rest-issues}
 use Rattle.segments.proofs.create.grant_create.Statement.{statement}
 use Rattle.segments.proofs.create.grant_create.Tie as tie
 
-parts : (c : tie.Start) → let a = c .args in Parting (issuerAs (a .s)) (a .table .now) (numberOf (a .token)) (a .new) (a .length) (a .permissions) (a .encoding)
-parts c = create-parts _ _ _ _ _ _ _ _ _ _ (c .pre .0) (c .pre .1)
+-- what the pass says
+pass : (c : tie.After-entry-at)
+    → let r = c .before .before in
+    let a = r .before .before .args in
+    Parting (stateAs (a .s)) (a .table .now) (r .read .result .number) (c .entry-at .result) (a .length) (a .user) (a .permissions) (a .encoding)
+pass c = let r = c .before .before in parting _ _ _ _ _ _ _ _ _ (r .before .before .pre .0) _ _ (r .read .ensures) (c .entry-at .ensures)
 
 pub grant-create-spec : {M : Type 1} → statement M
 grant-create-spec =
     tie.close
     (tie.spec
     (λ c κs. search needs)
-    (λ c κs. rw (c .before .read .ensures) (parts (c .before .before .before) .rest .inside))
-    (λ c. let p = parts (c .before .before .before .before) .rest in omega (arith, p .part, p .end))
-    (λ c. omega (arith, part-nonce _ _ _ _ _ _ (parts (c .before .before .before .before .before) .rest)))
-    (λ c. omega (arith, parts (c .before .before .before .before .before) .permitted))
+    (λ c κs. rw (c .before .read .ensures) (create-in _ _ _ _ _ _ _ _ _ (c .before .before .before .pre .0)))
+    (λ c. omega (arith, pass c .part, pass c .end))
+    (λ c. omega (arith, pass c .permitted))
     (λ c κs. search needs)
     (λ c κs.
     let d = c .before in
-    let p = parts (d .before .before .before .before .before .before) in
-    ((p .inside, p .most), (p .rest .encoded, rw (d .direct .ensures) (direct-fits _ _ _ _ _ _ _ (p .permitted)))))
+    let new = d .before .before .before .before .before .pre .1 in
+    (rw (d .direct .ensures, new) (pass (d .before) .issues), new))
     (λ c κs.
-    let i = c .before .before .before in
-    let e = i .before .before .before .before in
-    let r = e .before .before in
-    parted _ _ _ _ _ _ _ _ (r .read .result) (e .entry-at .result) _ (parts (r .before .before)) (r .read .ensures) (e .entry-at .ensures) (i .issue .ensures .1))
+    let g = c .before .before .before .before .before in
+    let d = g .before .before in
+    rest-in _ _ _ _ _ _ _ _ (d .direct .result) _ _ (g .give .ensures) (pass (d .before)))
+    (λ c κs. search needs)
+    (λ c. let p = pass (c .before .before .before .before .before .before .before .before) in omega (arith, p .part, p .end))
+    (λ c. let p = pass (c .before .before .before .before .before .before .before .before .before) in omega (arith, p .part))
+    (λ c κs. search needs)
+    (λ c κs.
+    let f = c .before .before .before .before in
+    let g = f .before .before .before .before in
+    let d = g .before .before in
+    let p = pass (d .before) in
+    rest-issues _ _ _ _ _ _ _ _ (d .direct .result) _ _ (g .give .ensures) p _ (rw (c .before .direct2 .ensures) (direct-fits _ _ _ _ _ _ _ (p .rights))) (f .if1 .left))
+    (λ c κs. search needs)
     (λ c. search needs)
     (λ c.
-    let l = c .before .before in
-    let i = l .before .before .before .before in
-    let d = i .before .before in
-    let e = d .before .before in
+    let v = c .before .before .before in
+    let f = v .before .before in
+    let g = f .before .before .before .before in
+    let d = g .before .before in
+    let e = d .before in
     let r = e .before .before in
-    let s = r .before .before in
-    create-grants _ (s .args .s) _ _ _ _ _ _ _ _ (r .read .result) (e .entry-at .result) (d .direct .result) _ _ _ (s .pre .1) (r .read .ensures) (e .entry-at .ensures) (d .direct .ensures) (i .issue .ensures) (l .leave .ensures)))
+    create-whole _ _ _ _ _ _ _ _ _ _ _ _ (r .read .ensures) (e .entry-at .ensures) (d .direct .ensures) (g .give .result) _ _ (g .give .ensures) _ (f .if1 .taken) (v .vacate .ensures) (c .giving .ensures))
+    (λ c. search needs)
+    (λ c.
+    let i = c .before .before .before in
+    let d₂ = i .before .before in
+    let f = d₂ .before .before .before in
+    let g = f .before .before .before .before in
+    let d = g .before .before in
+    let e = d .before in
+    let r = e .before .before in
+    create-rest _ _ _ _ _ _ _ _ _ _ _ _ (r .read .ensures) (e .entry-at .ensures) (d .direct .ensures) (g .give .result) _ _ (g .give .ensures) _ (f .if1 .left) _ (i .reissue .result) (d₂ .direct2 .ensures) (i .reissue .ensures) (c .giving-two .ensures)))

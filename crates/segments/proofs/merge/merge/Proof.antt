@@ -1,23 +1,22 @@
 -- `segments::merge::merge` meets its contract: it is decided by its verdict.
 -- Assumes nothing.
-use mathlib.Core.Path.{_≡_, _∙_}
+use mathlib.Core.Path.{_≡_}
 use mathlib.Core.List.{[]}
 use lib.ListN.{length}
 use borrow.Author.Needs.{needs}
-use Rattle.machine.specs.Operations.{numberOf}
-use Rattle.machine.specs.Requests.{merge}
-use Rattle.rulings.specs.Rulings.{issuerAs, verdictOn}
+use Rattle.machine.specs.Requests as request
+use Rattle.table.specs.States.{stateAs}
+use Rattle.rulings.specs.Rulings.{verdictOn}
 use Rattle.rulings.proofs.RulingLaws.{decided-pass, decided-stop}
 use Rattle.segments.specs.Neighbours.{Pairs}
 use Rattle.segments.specs.declared.merge.Pair.{Pair}
-use Rattle.segments.proofs.MergeLaws.{merge-grants, merge-joins}
 use Rattle.segments.proofs.merge.merge.Statement.{statement}
 use Rattle.segments.proofs.merge.merge.Tie as tie
 
 -- what the checks come to
 checked : (c : tie.After-check-merge) (r : Pair) → c .check-merge .result ≡ r
     → let a = c .before .before .before .before .args in
-    Pairs r (verdictOn (length (a .memory .now)) (issuerAs (a .s)) (a .table .now) (merge (a .first) (a .second) (a .task) (a .encoding)) []) (numberOf (a .first)) (numberOf (a .second))
+    Pairs (a .first) (a .second) r (verdictOn (length (a .memory .now)) (stateAs (a .s)) (a .table .now) (request.merge (a .first) (a .second) (a .task) (a .encoding)) [])
 checked c r q = rw q at (c .check-merge .ensures)
 
 pub merge-spec : {M : Type 1} → statement M
@@ -28,14 +27,12 @@ merge-spec =
     (λ c. search needs)
     (λ c κs. search needs)
     (λ c. search needs)
-    (λ c κs.
-    let r = c .before .before in
-    let q = checked (r .before .before) _ (r .r2 .given .1) in merge-joins _ _ _ _ _ _ _ _ _ (q .1 .0) (q .1 .1) (q .0))
+    (λ c κs. checked (c .before .before .before .before) _ (c .before .before .r2 .given .1))
     (λ c. search needs)
     (λ c. decided-stop _ _ _ _ _ _ _ (c .refused .ensures) (checked (c .before .before .before .before) _ (c .before .before .r .given .1)))
     (λ c. search needs)
     (λ c.
     let g = c .before .before in
     let r = g .before .before .before in
-    let q = checked (r .before .before) _ (r .r2 .given .1) in
-    decided-pass _ _ _ _ _ _ (g .grant-merge .ensures ∙ merge-grants _ _ _ _ _ _ _ _ _ (q .1 .0) (q .1 .1)) (q .0)))
+    let a = r .before .before .before .before .before .before .args in
+    decided-pass _ _ _ (request.merge (a .first) (a .second) (a .task) (a .encoding)) _ _ (g .grant-merge .ensures) (checked (r .before .before) _ (r .r2 .given .1) .0)))

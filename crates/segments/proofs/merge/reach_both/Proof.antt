@@ -2,7 +2,7 @@
 -- Assumes nothing.
 use mathlib.Core.Path.{_≡_, sym, _∙_}
 use borrow.Author.Needs.{needs}
-use Rattle.checks.specs.Answers.{Reaches, reachVerdict}
+use Rattle.checks.specs.Reached.{Reaches, reachVerdict}
 use Rattle.checks.specs.declared.reach.Reached.{Reached}
 use Rattle.machine.specs.Line.{lineOf}
 use Rattle.machine.specs.Operations.{numberOf}
@@ -31,10 +31,10 @@ reach-both-spec =
     (λ c κs. search needs)
     (λ c. search needs)
     (λ c. search needs)
-    (λ c. sym (both-first _ _ _ _ _ _ _ (first (c .before .before .before) _ (c .before .a .given .1))))
-    (λ c.
+    (λ c s k. sym (both-first _ _ _ _ _ _ _ (first (c .before .before .before) _ (c .before .a .given .1))))
+    (λ c s k.
     let t = c .before .before .before in
-    sym (both-second _ _ _ _ _ (first (t .before .before .before) _ (t .before .enum-told .given .1) .0) ∙ second t _ (c .before .b .given .1)))
-    (λ c.
+    sym (both-second _ _ _ _ _ _ _ (first (t .before .before .before) _ (t .before .enum-told .given .1) .0) ∙ second t _ (c .before .b .given .1)))
+    (λ c s k.
     let t = c .before .before in
-    sym (both-second _ _ _ _ _ (first (t .before .before .before) _ (t .before .enum-told .given .1) .0) ∙ second t _ (c .enum-told2 .given .1) .0)))
+    sym (both-second _ _ _ _ _ _ _ (first (t .before .before .before) _ (t .before .enum-told .given .1) .0) ∙ second t _ (c .enum-told2 .given .1) .0)))

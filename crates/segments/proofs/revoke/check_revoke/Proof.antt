@@ -1,25 +1,29 @@
 -- `segments::revoke::check_revoke` meets its contract: a law for each way out.
 -- Assumes nothing.
-use mathlib.Core.Path.{_≡_}
-use mathlib.Core.Bool.{true, _&&_}
+use mathlib.Core.Path.{_≡_, sym, _∙_, ap}
+use mathlib.Core.Bool.{Bool, _&&_}
+use mathlib.Core.List.{[]}
 use borrow.Author.Needs.{needs}
 use lib.Dec.{eqb, leb}
-use Rattle.checks.specs.Answers.{liveVerdict, Reaches}
-use Rattle.checks.specs.Holds.{settingsHold}
+use Rattle.tokens.specs.declared.token.Named.{Named}
+use Rattle.checks.specs.Holds.{requestHolds}
+use Rattle.checks.specs.Reached.{liveVerdict, Reaches}
 use Rattle.checks.specs.declared.reach.Reached.{Reached}
 use Rattle.checks.proofs.ReachLaws.{live-in}
 use Rattle.machine.specs.Line.{lineOf}
 use Rattle.machine.specs.Operations.{numberOf}
-use Rattle.rulings.specs.Rulings.{issuerAs}
-use Rattle.segments.proofs.RevokeLaws.{renews-as, revoke-live, revoke-next, revoke-request, revoke-token}
+use Rattle.machine.specs.Requests.{revoke}
+use Rattle.table.specs.States.{stateAs}
+use Rattle.rulings.proofs.RulingLaws.{request-stops, token-passes, token-stops}
+use Rattle.segments.proofs.RevokeLaws.{revoke-next, revoke-request, revoke-token}
 use Rattle.segments.proofs.revoke.check_revoke.Statement.{statement}
 use Rattle.segments.proofs.revoke.check_revoke.Tie as tie
 
--- place 1 holds, and what the token comes to
-first : (c : tie.Then1)
-    → let a = c .before .before .before .before .before .args in
-    (settingsHold (a .memory) (a .table .now) (a .s .last) (a .s .next) && leb (a .encoding) 3 && eqb (c .before .before .before .read .result .offset) 0) ≡ true
-first c = rw (c .before .before .settings .ensures) at (c .if1 .taken)
+-- place 1, as the test says, and what the token comes to
+asked : (c : tie.After-settings) (b : Bool) → let a = c .before .before .before .args in
+    (c .settings .result && leb (a .encoding) 3 && eqb (c .before .read .result .offset) 0) ≡ b
+    → requestHolds (a .memory) (stateAs (a .s)) (a .table .now) (revoke (a .token) (a .encoding)) [] ≡ b
+asked c b h = sym (revoke-request _ _ _ _ _ _ (c .before .read .ensures)) ∙ rw (c .settings .ensures) at h
 
 token : (c : tie.After-reach-live) (r : Reached) → c .reach-live .result ≡ r
     → let a = c .before .before .before .before .before .before .args in
@@ -36,14 +40,15 @@ check-revoke-spec =
     (λ c. search needs)
     (λ c. search needs)
     (λ c κs. let l = c .before .before in rw (l .before .before .before .before .read .ensures) (live-in _ _ _ (token l _ (c .enum-told .given .1) .0)))
-    (λ c κs.
+    (λ c κs. let i = c .before .before .before .before in revoke-next _ _ _ _ _ (asked (i .before .before) _ (i .if1 .taken)))
+    (λ c.
     let l = c .before .before .before in
-    let a = l .before .before .before .before .before .before .args in
-    revoke-next _ (issuerAs (a .s)) _ (a .token) (a .encoding) _ (l .before .before .before .before .read .ensures) (first (l .before)))
-    (λ c. let l = c .before .before .before in revoke-token _ _ _ _ _ _ (l .before .before .before .before .read .ensures) (first (l .before)) _ _ (token l _ (c .before .r .given .1)))
+    token-stops _ _ _ _ _ (asked (l .before .before .before) _ (l .before .if1 .taken)) (revoke-token _ _ _ _ _ (token l _ (c .before .r .given .1))))
     (λ c.
     let e = c .before in
     let l = e .before .before .before in
-    let n = l .before .before .before .before in
-    renews-as (c .renew .result) _ _ _ _ _ _ (revoke-live _ _ _ _ _ _ (n .read .ensures) (first (l .before)) (e .entry-at .result) (e .entry-at .ensures) (token l _ (e .before .enum-told .given .1) .0)) (rw (e .entry-at .ensures, n .read .ensures)) (rw (e .entry-at .ensures, n .read .ensures)) (c .renew .ensures))
-    (λ c. revoke-request _ _ _ _ _ _ (c .before .before .before .read .ensures) (rw (c .before .before .settings .ensures) at (c .if1 .left))))
+    let s = l .before .before .before in
+    rw
+    (token-passes _ _ _ _ _ (asked s _ (l .before .if1 .taken)) (revoke-token _ _ _ _ _ (token l _ (e .before .enum-told .given .1) .0)))
+    (c .seek .ensures _ _ _ _ (ap (λ (n : Named). n .number) (s .before .read .ensures)) (e .entry-at .ensures)))
+    (λ c. request-stops _ _ _ _ _ (asked (c .before .before) _ (c .if1 .left))))

@@ -4,20 +4,20 @@ use mathlib.Core.Path.{_≡_}
 use mathlib.Core.List.{[]}
 use lib.ListN.{length}
 use borrow.Author.Needs.{needs}
-use Rattle.machine.specs.Operations.{namedEntry, numberOf}
 use Rattle.machine.specs.Requests as request
-use Rattle.segments.specs.Renewals.{renewNonce, Renews, renewTag}
-use Rattle.rulings.specs.Rulings.{issuerAs, verdictOn}
-use Rattle.segments.specs.declared.revoke.Renewal.{Renewal}
+use Rattle.table.specs.States.{stateAs}
+use Rattle.rulings.specs.Rulings.{verdictOn}
 use Rattle.rulings.proofs.RulingLaws.{decided-pass, decided-stop, effect-pass, effect-stop}
+use Rattle.segments.specs.Renewals.{Finds}
+use Rattle.segments.specs.declared.revoke.Renewal.{Renewal}
 use Rattle.segments.proofs.revoke.revoke.Statement.{statement}
 use Rattle.segments.proofs.revoke.revoke.Tie as tie
 
--- what is known of the checks, where they come to r
-known : (c : tie.After-check-revoke) (r : Renewal) → c .check-revoke .result ≡ r
+-- what the checks come to
+checked : (c : tie.After-check-revoke) (r : Renewal) → c .check-revoke .result ≡ r
     → let a = c .before .before .before .before .args in
-    Renews r (verdictOn (length (a .memory .now)) (issuerAs (a .s)) (a .table .now) (request.revoke (a .token) (a .encoding)) []) (renewNonce (issuerAs (a .s)) (numberOf (a .token)) (namedEntry (a .table .now) (a .token))) (renewTag (issuerAs (a .s)) (numberOf (a .token)) (namedEntry (a .table .now) (a .token)))
-known c r q = rw q at (c .check-revoke .ensures)
+    Finds (stateAs (a .s)) (a .table .now) (a .token) r (verdictOn (length (a .memory .now)) (stateAs (a .s)) (a .table .now) (request.revoke (a .token) (a .encoding)) [])
+checked c r q = rw q at (c .check-revoke .ensures)
 
 pub revoke-spec : {M : Type 1} → statement M
 revoke-spec =
@@ -27,14 +27,14 @@ revoke-spec =
     (λ c. search needs)
     (λ c κs. search needs)
     (λ c. search needs)
-    (λ c κs. known (c .before .before .before .before .before) _ (c .before .before .before .r2 .given .1))
+    (λ c κs. checked (c .before .before .before .before .before) _ (c .before .before .before .r2 .given .1))
     (λ c. search needs)
     (λ c.
-    let k = known (c .before .before .before .before) _ (c .before .before .r .given .1) in
-    (decided-stop _ _ _ _ _ _ _ (c .refused .ensures) k, rw (effect-stop _ _ _ _ _ _ _ k)))
+    let k = checked (c .before .before .before .before) _ (c .before .before .r .given .1) in
+    (decided-stop _ _ _ _ _ _ _ (c .refused .ensures) k, rw (effect-stop _ _ _ _ _ k)))
     (λ c. search needs)
     (λ c. search needs)
     (λ c.
     let g = c .before .before .before .before in
-    let k = known (g .before .before .before .before .before .before) _ (g .before .before .before .before .r2 .given .1) in
+    let k = checked (g .before .before .before .before .before .before) _ (g .before .before .before .before .r2 .given .1) in
     (decided-pass _ _ _ _ _ _ (g .grant-revoke .ensures .0) (k .0), rw (effect-pass _ _ _ _ _ (k .0)) (g .grant-revoke .ensures .1))))

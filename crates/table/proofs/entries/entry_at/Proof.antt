@@ -1,6 +1,5 @@
 -- `table::entries::entry_at` meets its contract: the part has 32 bytes.
 -- Assumes nothing.
-use mathlib.Core.Path.{sym, _∙_}
 use native.Mathlib.Nat.{add-sub-cancel-left}
 use native.Mathlib.Omega.{arith}
 use borrow.Author.Needs.{needs}

@@ -1,6 +1,6 @@
 -- `table::line::linked` meets its contract: beyond the table there is no parent.
 -- Assumes nothing.
-use mathlib.Core.Path.{sym, _∙_}
+use mathlib.Core.Path.{sym}
 use native.Mathlib.Omega.{arith}
 use borrow.Author.Needs.{needs}
 use Rattle.machine.specs.Parts.{size}

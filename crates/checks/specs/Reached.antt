@@ -1,0 +1,35 @@
+-- What the checks of a token come to.
+-- Assumes nothing.
+use mathlib.Core.Path.{_≡_}
+use mathlib.Core.Bool.{Bool}
+use mathlib.Core.List.{List}
+use Prim.Native.Nat.{ℕ, _+_, _*_, _≤_}
+use lib.ListN.{length}
+use Rattle.machine.specs.Line.{Line, owner}
+use Rattle.machine.specs.Steps.{pass, Verdict, verdict}
+use Rattle.machine.specs.Stops.{formed, live, reachable}
+use Rattle.checks.specs.Refusals.{stopAs}
+use Rattle.checks.specs.declared.reach.Formed.{Formed}
+use Rattle.checks.specs.declared.reach.Formed.the-variants as held
+use Rattle.checks.specs.declared.reach.Reached.{Reached}
+use Rattle.checks.specs.declared.reach.Reached.the-variants as reached
+
+-- the verdicts on a token: of places 2 and 3, of places 2 to 4, and of places 2 to 5
+unfoldable pub formedVerdict : ℕ → List ℕ → ℕ → Verdict
+formedVerdict m t k = verdict (formed m t k)
+
+unfoldable pub liveVerdict : ℕ → List ℕ → ℕ → Verdict
+liveVerdict m t k = verdict (live m t k)
+
+unfoldable pub reachVerdict : ℕ → List ℕ → (token task : ℕ) → Verdict
+reachVerdict m t k u = verdict (reachable m t k u)
+
+-- the checks of a token came to the verdict v, and its line in the table t to l
+abbrev pub Reaches : List ℕ → Reached → Verdict → Line → Type 0
+Reaches t (reached.Stop why) v l = v ≡ stopAs why
+Reaches t (reached.Owner o) v l = (v ≡ pass) × ((l ≡ owner o) × (32 * o + 32 ≤ length t))
+
+-- the checks came to the verdict v, and the line's lock is b
+abbrev pub Forms : Formed → Verdict → Bool → Type 0
+Forms (held.Stop why) v b = v ≡ stopAs why
+Forms (held.Locked l) v b = (v ≡ pass) × (l ≡ b)

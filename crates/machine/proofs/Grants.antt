@@ -1,0 +1,74 @@
+-- What every granted request has, on whatever machine: its effect fits, its tokens' encoding is one of four, and what it issues anew lies in the table.
+-- Assumes nothing.
+use mathlib.Core.Path.{_≡_, refl}
+use mathlib.Core.Logic.{_≢_}
+use mathlib.Core.Bool.{false}
+use mathlib.Core.List.{List, [], _∷_}
+use Prim.Native.Nat.{ℕ, _+_, _≤_}
+use native.Mathlib.Omega.{arith}
+use lib.Dec.{eqb}
+use lib.ListN.{length}
+use borrow.Author.Tests.{leb-true, ltb-true}
+use Rattle.layout.specs.Form.{illFormed}
+use Rattle.tokens.specs.Token.{named}
+use Rattle.layout.specs.declared.entry.Entry.{Entry}
+use Rattle.machine.specs.Demand3.{IsReset, resets}
+use Rattle.machine.specs.Lent.{AllBytes}
+use Rattle.machine.specs.Operations.{Effect, Fill, fillFrom, Grant, grant, grantRelease, namedEntry, numberOf, partOf, Store, transfer, unfilled}
+use Rattle.machine.specs.Parts.{size, State}
+use Rattle.machine.specs.Requests.{access, clone, create, derive, executeOnly, fetching, lock, merge, reading, release, Request, reset, revoke, unlock, Way, writing}
+use Rattle.machine.specs.Stops.{checks}
+use Rattle.machine.specs.Writes.{give}
+use Rattle.machine.proofs.Basics.{neqb-true, range}
+use Rattle.machine.proofs.ByteLaws.{bytes-zeros}
+use Rattle.machine.proofs.Choices.{by-cond}
+use Rattle.machine.proofs.Decided.{Passed}
+use Rattle.machine.proofs.Fuel.{line-formed}
+use Rattle.machine.proofs.WriteLaws.{calm-within, release-calm, Within}
+
+-- an effect stores bytes, if the buffer has bytes; and it reads as many as the buffer holds, inside memory
+abbrev pub StoreFits : (buffer : List ℕ) → List Store → Type 0
+StoreFits b [] = Unit {0}
+StoreFits b (w ∷ ws) = (AllBytes b → AllBytes (w .bytes)) × StoreFits b ws
+
+abbrev pub FillFits : (m : ℕ) (buffer : List ℕ) → Fill → Type 0
+FillFits m b unfilled = Unit {0}
+FillFits m b (fillFrom a n) = (a + n ≤ m) × (n ≡ length b)
+
+abbrev pub EffectFits : (m : ℕ) (buffer : List ℕ) → Effect → Type 0
+EffectFits m b f = StoreFits b (f .stores) × FillFits m b (f .fill)
+
+pub record Fitting (m : ℕ) (t : List ℕ) (q : Request) (b : List ℕ) (g : Grant) : Type 0 where
+  pub effect : EffectFits m b (g .effect)
+  pub encoding : g .encoding ≤ 3
+  pub within : (IsReset q → ⊥) → Within (size t) (g .writes)
+
+pub access-inside : (m : ℕ) (s : State) (t : List ℕ) (w : Way) (k u : ℕ) (b : List ℕ) → Passed (checks m s t (access w k u) b) → namedEntry t k .base + named k .offset + length b ≤ m
+access-inside m s t w k u b h =
+    let e : Entry = namedEntry t k in
+    let full : e .kind ≢ 0 = neqb-true (e .kind) 0 (search) in
+    let formed : illFormed m e ≡ false = line-formed m t (numberOf k) (search) in
+    let bound : named k .offset + length b ≤ e .length = leb-true (named k .offset + length b) (e .length) (search) in
+    omega (arith, range m e full formed)
+
+transfer-fits : (m : ℕ) (w : Way) (a : ℕ) (b : List ℕ) → a + length b ≤ m → EffectFits m b (transfer w a b)
+transfer-fits m reading a b h = (tt, (h, refl))
+transfer-fits m writing a b h = ((λ i. i, tt), tt)
+transfer-fits m fetching a b h = (tt, (h, refl))
+
+pub granted-fits : (m : ℕ) (s : State) (t : List ℕ) (q : Request) (b : List ℕ) → Passed (checks m s t q b) → Fitting m t q b (grant m t q b)
+granted-fits m s t (reset k0 k1 ν) b h = record { effect = (tt, tt); encoding = omega arith; within = λ n. absurd (n resets) }
+granted-fits m s t (access w k u) b h = record { effect = transfer-fits m w _ b (access-inside m s t w k u b h); encoding = omega arith; within = λ n. tt }
+granted-fits m s t (create k u l x p c) b h = record {
+  effect = (tt, tt);
+  encoding = leb-true c 3 (search);
+  within = λ n. by-cond (λ w. Within (size t) (give (partOf (namedEntry t k) l x p) ∷ w ∷ [])) (eqb l (namedEntry t k .length)) (λ e. tt) (λ e. (ltb-true _ _ (search), tt));
+}
+granted-fits m s t (merge j k u c) b h = record { effect = (tt, tt); encoding = leb-true c 3 (search); within = λ n. (ltb-true (numberOf j) (size t) (search), tt) }
+granted-fits m s t (derive k o l p c) b h = record { effect = (tt, tt); encoding = leb-true c 3 (search); within = λ n. tt }
+granted-fits m s t (executeOnly k c) b h = record { effect = (tt, tt); encoding = leb-true c 3 (search); within = λ n. tt }
+granted-fits m s t (clone k) b h = record { effect = (tt, tt); encoding = omega arith; within = λ n. tt }
+granted-fits m s t (release k) b h = record { effect = (tt, tt); encoding = omega arith; within = λ n. calm-within (size t) (grantRelease m t (numberOf k) .writes) (release-calm m t (numberOf k)) }
+granted-fits m s t (lock k u) b h = record { effect = (tt, tt); encoding = omega arith; within = λ n. tt }
+granted-fits m s t (unlock k u) b h = record { effect = (tt, tt); encoding = omega arith; within = λ n. tt }
+granted-fits m s t (revoke k c) b h = record { effect = ((λ i. search (bytes-zeros), tt), tt); encoding = leb-true c 3 (search); within = λ n. (ltb-true (numberOf k) (size t) (search), tt) }

@@ -1,0 +1,177 @@
+-- What every list of writes leaves, said once over the kinds of write.
+-- Assumes nothing.
+use mathlib.Core.Path.{_≡_, refl, sym, ap, ap₂, _∙_}
+use mathlib.Core.Bool.{_&&_}
+use mathlib.Core.List.{List, [], _∷_, _++_}
+use Prim.Native.Nat.{ℕ, zero, suc, _≤_, _<_}
+use native.Mathlib.Nat.{mod-lt}
+use native.Mathlib.Omega.{arith}
+use native.Mathlib.Decide.{ℕ-discrete}
+use lib.Dec.{eqb, leb}
+use lib.Pow.{pow-pos}
+use Rattle.layout.specs.Tag.{tagOf}
+use Rattle.layout.specs.declared.entry.Entry.{Entry}
+use Rattle.tokens.specs.declared.token.Named.{Named}
+use Rattle.tokens.proofs.TokenLaws.{read-packed, small-fits}
+use Rattle.machine.specs.Given.{nameIn, namesIn}
+use Rattle.machine.specs.Issuing.{issue, newNumber}
+use Rattle.machine.specs.Line.{isLocked, lineOf, linked, parentNumber}
+use Rattle.machine.specs.Operations.{climb, grantRelease}
+use Rattle.machine.specs.Parts.{at, cleared, put, root, size, State}
+use Rattle.machine.specs.Writes.{alter, begin, Book, give, Name, nameOf, otherNonce, reissue, renew, tokenFor, vacate, vacated, Write, write, written}
+use Rattle.machine.proofs.Choices.{by-cond}
+use Rattle.machine.proofs.Fuel.{number-first, pass-over}
+use Rattle.machine.proofs.TableLaws.{size-cleared, size-put}
+
+-- ---- the table
+
+-- Entries are all that is written: what holds of a table, and of it with an entry put, and of it cleared, holds after the writes.
+module _ (P : List ℕ → Type 0) (puts : (t : List ℕ) (n : ℕ) (e : Entry) → P t → P (put t n e)) (clears : (t : List ℕ) → P t → P (cleared t)) (c : ℕ) where
+  table-written : (b : Book) (w : Write) → P (b .table) → P (write c b w .table)
+  table-written b (begin m k0 k1 ν) h = search (puts, clears)
+  table-written b (give e) h = search (puts)
+  table-written b (reissue n e) h = search (puts)
+  table-written b (renew n e) h = search (puts)
+  table-written b (vacate n) h = search (puts)
+  table-written b (alter n e) h = search (puts)
+
+  pub table-after : (b : Book) (ws : List Write) → P (b .table) → P (written c b ws .table)
+  table-after b [] h = h
+  table-after b (w ∷ ws) h = table-after (write c b w) ws (table-written b w h)
+
+-- ---- the last number
+
+-- a new number is inside, and 0 where there is none
+number-inside : (s : State) (t : List ℕ) → 0 < size t → newNumber s t < size t
+number-inside s t h = go (ℕ-discrete (newNumber s t) 0)
+  where
+    go : Dec (newNumber s t ≡ 0) → newNumber s t < size t
+    go (yes z) = omega arith
+    go (no z) = number-first s t z .inside
+
+-- a table of z entries, and a last number inside it
+pub record Numbered (z : ℕ) (b : Book) : Type 0 where
+  pub sized : size (b .table) ≡ z
+  pub last : b .state .last < z
+
+module _ (c z : ℕ) (some : 0 < z) where
+  numbered-written : (b : Book) (w : Write) → Numbered z b → Numbered z (write c b w)
+  numbered-written b (begin m k0 k1 ν) g = record { sized = size-put (cleared (b .table)) 0 (root m) ∙ size-cleared (b .table) ∙ g .sized; last = some }
+  numbered-written b (give e) g = record { sized = size-put _ _ _ ∙ g .sized; last = omega (arith, number-inside (b .state) (b .table) (omega arith)) }
+  numbered-written b (reissue k e) g = record { sized = size-put _ _ _ ∙ g .sized; last = g .last }
+  numbered-written b (renew k e) g = record { sized = size-put _ _ _ ∙ g .sized; last = g .last }
+  numbered-written b (vacate k) g = record { sized = size-put _ _ _ ∙ g .sized; last = g .last }
+  numbered-written b (alter k e) g = record { sized = size-put _ _ _ ∙ g .sized; last = g .last }
+
+  pub numbered-after : (b : Book) (ws : List Write) → Numbered z b → Numbered z (written c b ws)
+  numbered-after b [] g = g
+  numbered-after b (w ∷ ws) g = numbered-after (write c b w) ws (numbered-written b w g)
+
+-- ---- nonces and tokens
+
+-- no reset is among the writes, and what is issued anew has a number below z
+abbrev pub Within : ℕ → List Write → Type 0
+Within z [] = Unit {0}
+Within z (begin m k0 k1 ν ∷ ws) = ⊥
+Within z (give e ∷ ws) = Within z ws
+Within z (reissue n e ∷ ws) = (n < z) × Within z ws
+Within z (renew n e ∷ ws) = (n < z) × Within z ws
+Within z (vacate n ∷ ws) = Within z ws
+Within z (alter n e ∷ ws) = Within z ws
+
+pub other-least : (s : State) (t : List ℕ) (n : ℕ) (e : ℕ → Entry) → s .next ≤ otherNonce s t n e
+other-least s t n e = pass-over _ s n e (at t n .tag) (s .next) .from
+
+-- the next nonce never falls
+pub next-up : (c z : ℕ) (b : Book) (ws : List Write) → Within z ws → b .state .next ≤ written c b ws .state .next
+next-up c z b [] h = omega arith
+next-up c z b (begin m k0 k1 ν ∷ ws) h = absurd h
+next-up c z b (give e ∷ ws) h = omega (arith, next-up c z (write c b (give e)) ws h)
+next-up c z b (reissue n e ∷ ws) h = omega (arith, next-up c z (write c b (reissue n e)) ws (h .1))
+next-up c z b (renew n e ∷ ws) h = omega (arith, other-least (b .state) (b .table) n e, next-up c z (write c b (renew n e)) ws (h .1))
+next-up c z b (vacate n ∷ ws) h = next-up c z (write c b (vacate n)) ws h
+next-up c z b (alter n e ∷ ws) h = next-up c z (write c b (alter n e)) ws h
+
+-- the token of what is issued under number n names it
+names : (s : State) (c n : ℕ) (e : Entry) → c ≤ 3 → n < 1024 → nameIn (tokenFor c (nameOf n (issue s n e))) ≡ nameOf n (issue s n e)
+unfolding tagOf
+names s c n e a b =
+    let fit = small-fits c n (issue s n e .tag) a b (mod-lt _ (pow-pos 16)) in
+    ap (λ (x : Named). record { number = x .number; tag = x .tag }) (read-packed c _ (omega arith) fit)
+
+names-append : (xs : List ℕ) (y : ℕ) → namesIn (xs ++ (y ∷ [])) ≡ namesIn xs ++ (nameIn y ∷ [])
+names-append [] y = refl
+names-append (x ∷ xs) y = ap (λ (ks : List Name). nameIn x ∷ ks) (names-append xs y)
+
+-- the tokens so far name what was issued so far, in a table of z entries
+pub record Told (z : ℕ) (b : Book) : Type 0 where
+  pub sized : size (b .table) ≡ z
+  pub named : b .issued ≡ namesIn (b .tokens)
+
+module _ (c z : ℕ) (encoded : c ≤ 3) (some : 0 < z) (most : z ≤ 1024) where
+  one-more : (b : Book) (n ν : ℕ) (e : ℕ → Entry) → n < z → Told z b
+      → b .issued ++ (nameOf n (issue (b .state) n (e ν)) ∷ []) ≡ namesIn (b .tokens ++ (tokenFor c (nameOf n (issue (b .state) n (e ν))) ∷ []))
+  one-more b n ν e h g =
+      ap₂ (λ (ks : List Name) (k : Name). ks ++ (k ∷ [])) (g .named) (sym (names (b .state) c n (e ν) encoded (omega arith)))
+      ∙ sym (names-append (b .tokens) (tokenFor c (nameOf n (issue (b .state) n (e ν)))))
+
+  pub named-after : (b : Book) (ws : List Write) → Within z ws → Told z b → Told z (written c b ws)
+  named-after b [] h g = g
+  named-after b (begin m k0 k1 ν ∷ ws) h g = absurd h
+  named-after b (give e ∷ ws) h g =
+      named-after (write c b (give e)) ws h
+      (record { sized = size-put _ _ _ ∙ g .sized; named = one-more b (newNumber (b .state) (b .table)) (b .state .next) e (omega (arith, number-inside (b .state) (b .table) (omega (arith, g .sized)), g .sized)) g })
+  named-after b (reissue n e ∷ ws) h g =
+      named-after (write c b (reissue n e)) ws (h .1) (record { sized = size-put _ _ _ ∙ g .sized; named = one-more b n (b .state .next) e (h .0) g })
+  named-after b (renew n e ∷ ws) h g =
+      named-after (write c b (renew n e)) ws (h .1) (record { sized = size-put _ _ _ ∙ g .sized; named = one-more b n (otherNonce (b .state) (b .table) n e) e (h .0) g })
+  named-after b (vacate n ∷ ws) h g = named-after (write c b (vacate n)) ws h (record { sized = size-put _ _ _ ∙ g .sized; named = g .named })
+  named-after b (alter n e ∷ ws) h g = named-after (write c b (alter n e)) ws h (record { sized = size-put _ _ _ ∙ g .sized; named = g .named })
+
+-- ---- writes that issue nothing
+
+abbrev pub Calm : List Write → Type 0
+Calm [] = Unit {0}
+Calm (begin m k0 k1 ν ∷ ws) = ⊥
+Calm (give e ∷ ws) = ⊥
+Calm (reissue n e ∷ ws) = ⊥
+Calm (renew n e ∷ ws) = ⊥
+Calm (vacate n ∷ ws) = Calm ws
+Calm (alter n e ∷ ws) = Calm ws
+
+pub calm-within : (z : ℕ) (ws : List Write) → Calm ws → Within z ws
+calm-within z [] h = tt
+calm-within z (begin m k0 k1 ν ∷ ws) h = absurd h
+calm-within z (give e ∷ ws) h = absurd h
+calm-within z (reissue n e ∷ ws) h = absurd h
+calm-within z (renew n e ∷ ws) h = absurd h
+calm-within z (vacate n ∷ ws) h = calm-within z ws h
+calm-within z (alter n e ∷ ws) h = calm-within z ws h
+
+-- they leave the state, and give no token
+pub record Still (b b′ : Book) : Type 0 where
+  pub state : b′ .state ≡ b .state
+  pub issued : b′ .issued ≡ b .issued
+  pub tokens : b′ .tokens ≡ b .tokens
+
+pub calm-still : (c : ℕ) (b : Book) (ws : List Write) → Calm ws → Still b (written c b ws)
+calm-still c b [] h = record { state = refl; issued = refl; tokens = refl }
+calm-still c b (begin m k0 k1 ν ∷ ws) h = absurd h
+calm-still c b (give e ∷ ws) h = absurd h
+calm-still c b (reissue n e ∷ ws) h = absurd h
+calm-still c b (renew n e ∷ ws) h = absurd h
+calm-still c b (vacate n ∷ ws) h = let k = calm-still c (write c b (vacate n)) ws h in record { state = k .state; issued = k .issued; tokens = k .tokens }
+calm-still c b (alter n e ∷ ws) h = let k = calm-still c (write c b (alter n e)) ws h in record { state = k .state; issued = k .issued; tokens = k .tokens }
+
+-- those of a climb are such, and so those of a drop
+climb-calm : (f : ℕ) (t : List ℕ) (n : ℕ) → Calm (climb f t n)
+unfolding climb
+climb-calm zero t n = tt
+climb-calm (suc f) t n =
+    by-cond Calm (leb 2 (at t n .count)) (λ c. tt)
+    (λ c. by-cond Calm (eqb (at t n .count) 0) (λ z. tt)
+    (λ z. by-cond Calm (eqb (at t n .kind) 1) (λ d. tt)
+    (λ d. by-cond Calm (linked t (at t n)) (λ l. climb-calm f (vacated t n) (parentNumber (at t n))) (λ l. tt))))
+
+pub release-calm : (m : ℕ) (t : List ℕ) (n : ℕ) → Calm (grantRelease m t n .writes)
+release-calm m t n = by-cond Calm (eqb (at t n .count) 1 && isLocked t (lineOf m t n)) (λ e. tt) (λ e. climb-calm (suc (at t n .nonce)) t n)

@@ -1,0 +1,77 @@
+-- What is written into state and table: the one place where entries are issued and freed (01, "Issuing").
+-- Assumes nothing.
+use mathlib.Core.List.{List, [], _∷_, _++_}
+use Prim.Native.Nat.{ℕ, _+_, _-_}
+use Rattle.layout.specs.Entry.{free}
+use Rattle.tokens.specs.Token.{token}
+use Rattle.layout.specs.declared.entry.Entry.{Entry}
+use Rattle.machine.specs.Issuing.{issue, newNumber, passOver}
+use Rattle.machine.specs.Parts.{at, begun, cleared, moved, put, root, spent, State}
+
+-- "'the same token' means these two": its number and tag
+pub record Name : Type 0 where
+  pub number : ℕ
+  pub tag : ℕ
+
+abbrev pub nameOf : ℕ → Entry → Name
+nameOf n e = record { number = n; tag = e .tag }
+
+-- the token of that name in an encoding, offset zero
+abbrev pub tokenFor : (encoding : ℕ) → Name → ℕ
+tokenFor c k = token c (record { tag = k .tag; number = k .number; offset = 0 })
+
+-- One write. An entry that is issued is told by what it is under each nonce, with tag 0.
+pub data Write : Type 0 where
+  -- reset: the root over all of memory, of so many bytes, and zeros for all other entries
+  begin : (memory key0 key1 firstNonce : ℕ) → Write
+  -- an entry is issued under a new number
+  give : (entry : ℕ → Entry) → Write
+  -- an entry is issued anew under its number
+  reissue : (number : ℕ) (entry : ℕ → Entry) → Write
+  -- the same, and "nonces whose tag equals the old one are passed over"
+  renew : (number : ℕ) (entry : ℕ → Entry) → Write
+  -- the entry of this number is freed
+  vacate : (number : ℕ) → Write
+  -- "Later changes of count or lock leave the tag."
+  alter : (number : ℕ) (entry : Entry) → Write
+
+-- State and table as the writes so far left them; what these issued, in order; and the tokens that the answer carries of it.
+pub record Book : Type 0 where
+  pub state : State
+  pub table : List ℕ
+  pub issued : List Name
+  pub tokens : List ℕ
+
+-- as a request finds state and table
+abbrev pub opened : State → List ℕ → Book
+opened s t = record { state = s; table = t; issued = []; tokens = [] }
+
+-- "An issue uses the next nonce and raises it by one": e under number n and nonce ν, where `last` is then the last number given, and c the encoding of
+-- its token
+abbrev pub entered : (encoding : ℕ) → Book → (last n ν : ℕ) → (ℕ → Entry) → Book
+entered c b last n ν e =
+    let new = issue (b .state) n (e ν) in
+    record { state = moved (b .state) last (ν + 1); table = put (b .table) n new; issued = b .issued ++ (nameOf n new ∷ []); tokens = b .tokens ++ (tokenFor c (nameOf n new) ∷ []) }
+
+-- the table with entry n freed
+abbrev pub vacated : List ℕ → ℕ → List ℕ
+vacated t n = put t n free
+
+-- the first nonce that gives the entry of number n another tag than it has
+abbrev pub otherNonce : State → List ℕ → ℕ → (ℕ → Entry) → ℕ
+otherNonce s t n e = passOver (spent - s .next) s n e (at t n .tag) (s .next)
+
+-- Reset's root is issued, and no answer carries its token: "A token is issued, and so given, when reset writes the root (number 0, tag 0)".
+abbrev pub write : (encoding : ℕ) → Book → Write → Book
+write c b (begin m k0 k1 ν) =
+    record { state = begun k0 k1 ν; table = put (cleared (b .table)) 0 (root m); issued = b .issued ++ (record { number = 0; tag = 0 } ∷ []); tokens = b .tokens }
+write c b (give e) = entered c b (newNumber (b .state) (b .table)) (newNumber (b .state) (b .table)) (b .state .next) e
+write c b (reissue n e) = entered c b (b .state .last) n (b .state .next) e
+write c b (renew n e) = entered c b (b .state .last) n (otherNonce (b .state) (b .table) n e) e
+write c b (vacate n) = record { state = b .state; table = vacated (b .table) n; issued = b .issued; tokens = b .tokens }
+write c b (alter n e) = record { state = b .state; table = put (b .table) n e; issued = b .issued; tokens = b .tokens }
+
+-- one after the other
+abbrev pub written : (encoding : ℕ) → Book → List Write → Book
+written c b [] = b
+written c b (w ∷ ws) = written c (write c b w) ws

@@ -1,0 +1,26 @@
+-- `table::writes::begin` meets its contract: the table is cleared, then holds the root.
+-- Assumes nothing.
+use native.Mathlib.Omega.{arith}
+use lib.ListN.{length-replicate}
+use borrow.Author.Needs.{needs}
+use Rattle.layout.proofs.EntryLaws.{direct-fits}
+use Rattle.table.specs.States.{stateAs}
+use Rattle.table.proofs.WriteLaws.{begin-left}
+use Rattle.table.proofs.writes.begin.Statement.{statement}
+use Rattle.table.proofs.writes.begin.Tie as tie
+
+pub begin-spec : {M : Type 1} → statement M
+begin-spec =
+    tie.close
+    (tie.spec
+    (λ c κs. search needs)
+    (λ c. search needs)
+    (λ c κs. search needs)
+    (λ c κs.
+    let z = c .before .before .before .before in
+    (rw (z .clear .ensures, length-replicate) (omega (arith, z .before .before .before .pre)), rw (c .direct .ensures) (direct-fits _ _ _ 7 _ _ _ (omega arith))))
+    (λ c. search needs)
+    (λ c.
+    let p = c .before .before in
+    let z = p .before .before .before .before .before in
+    begin-left (stateAs (z .before .before .before .args .s)) _ _ _ _ _ (p .before .direct .result) _ _ (z .clear .ensures) (p .before .direct .ensures) (p .put-entry .ensures)))

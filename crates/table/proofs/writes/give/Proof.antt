@@ -1,0 +1,15 @@
+-- `table::writes::give` meets its contract: the entry is entered, and the counters move.
+-- Assumes nothing.
+use borrow.Author.Needs.{needs}
+use Rattle.table.proofs.writes.give.Statement.{statement}
+use Rattle.table.proofs.writes.give.Tie as tie
+
+pub give-spec : {M : Type 1} → statement M
+give-spec =
+    tie.close
+    (tie.spec
+    (λ c. search needs)
+    (λ c κs. search needs)
+    (λ c. search needs)
+    (λ c. search needs)
+    (λ c. let i = c .before .before .before in let a = i .before .before .before .before in rw (i .enter .ensures .0, i .enter .ensures .1, a .pre .1)))

@@ -1,0 +1,7 @@
+-- The words of the state, in the machine's terms.
+-- Assumes nothing.
+use Rattle.machine.specs.Parts.{State}
+use Rattle.table.specs.declared.state.StateWords.{StateWords}
+
+abbrev pub stateAs : StateWords → State
+stateAs s = record { key0 = s .key0; key1 = s .key1; last = s .last; next = s .next }
