@@ -2,7 +2,7 @@
 -- Assumes nothing.
 use mathlib.Core.Path.{_≡_}
 use mathlib.Core.Bool.{true}
-use mathlib.Core.List.{List, [], _∷_, map}
+use mathlib.Core.List.{List, [], _∷_, _++_, map}
 use Prim.Native.Nat.{ℕ}
 use lib.ListN.{replicate, set}
 use Rattle.layout.specs.Entry.{direct, entryBytes}
@@ -24,16 +24,21 @@ five offset = record { tag = 0x1234; number = 5; offset = offset }
 abbrev packed : ℕ → ℕ → ℕ → Row
 packed encoding offset printed = record { given = token encoding (five offset) ∷ []; printed = printed ∷ [] }
 
--- the root entry over 65,536 bytes: direct, base 0, all of memory, user 0, R, W and X, Lockable, tag 0, nonce 0;
--- "byte 0 = 20, byte 6 = 20, byte 25 = 3A, the rest 00", hex
-abbrev rootRow : Row
-rootRow = record { given = entryBytes (direct 0 65536 0 7 true 0 0); printed = set (set (set (replicate 32 0) 0 0x20) 6 0x20) 25 0x3A }
-
-abbrev pub packedExamples : List Row
-packedExamples =
+abbrev pub packedTokens : List Row
+packedTokens =
     packed 0 0xC 0x048D00050000000C
     ∷ packed 2 0xC 0x848D00000005000C
     ∷ packed 3 0xC 0xC48D00000500000C
     ∷ packed 1 0 0x448D000000000005
-    ∷ rootRow
     ∷ []
+
+-- the root entry over 65,536 bytes: "byte 0 = 20, byte 6 = 20, byte 25 = 3A, the rest 00", hex
+abbrev pub printedRoot : List ℕ
+printedRoot = set (set (set (replicate 32 0) 0 0x20) 6 0x20) 25 0x3A
+
+-- direct, base 0, all of memory, user 0, R, W and X, Lockable, tag 0, nonce 0
+abbrev rootRow : Row
+rootRow = record { given = entryBytes (direct 0 65536 0 7 true 0 0); printed = printedRoot }
+
+abbrev pub packedExamples : List Row
+packedExamples = packedTokens ++ (rootRow ∷ [])

@@ -1,9 +1,10 @@
 -- Lists of bytes stay lists of bytes when parts are taken or stored.
 -- Assumes nothing.
+use mathlib.Core.Path.{_≡_}
 use mathlib.Core.List.{List, [], _∷_}
 use Prim.Native.Nat.{ℕ, zero, suc, _<_}
 use native.Mathlib.Omega.{arith}
-use lib.ListN.{drop, replicate, set, take}
+use lib.ListN.{drop, length, replicate, set, take}
 use lib.Seq.{sets}
 use Rattle.bits.specs.Bytes.{bytes}
 use Rattle.layout.specs.Entry.{entryBytes, entryNumber}
@@ -35,12 +36,18 @@ pub bytes-zeros : (n : ℕ) → AllBytes (replicate n 0)
 bytes-zeros zero = tt
 bytes-zeros (suc n) = (omega arith, bytes-zeros n)
 
--- fields of eight bits are bytes, and so are the 32 of an entry
+-- fields of eight bits are bytes and bytes such fields, and so are the 32 of an entry
 fit-bytes : (k : ℕ) (s : List ℕ) → Fit (replicate k 8) s → AllBytes s
 fit-bytes zero [] h = tt
 fit-bytes zero (v ∷ s) h = absurd h
 fit-bytes (suc k) [] h = absurd h
 fit-bytes (suc k) (v ∷ s) h = (h .0, fit-bytes k s (h .1))
+
+pub bytes-fit : (k : ℕ) (s : List ℕ) → length s ≡ k → AllBytes s → Fit (replicate k 8) s
+bytes-fit zero [] l h = tt
+bytes-fit zero (v ∷ s) l h = absurd (omega arith)
+bytes-fit (suc k) [] l h = absurd (omega arith)
+bytes-fit (suc k) (v ∷ s) l h = (h .0, bytes-fit k s (omega arith) (h .1))
 
 pub entry-bytes : (e : Entry) → AllBytes (entryBytes e)
 unfolding bytes

@@ -13,7 +13,7 @@ use lib.ListN.{length, length-replicate, replicate}
 use borrow.Author.Tests.{eqb-false, eqb-true, leb-true, ltb-false, ltb-true, ne-eqb, not-true}
 use Rattle.layout.specs.Entry.{direct, directFields, directWidths, free}
 use Rattle.bits.specs.Fields.{Fit}
-use Rattle.tokens.specs.Permissions.{X}
+use Rattle.tokens.specs.Permissions.{within, X}
 use Rattle.tokens.specs.Token.{named}
 use Rattle.layout.specs.declared.entry.Entry.{Entry}
 use Rattle.machine.specs.Demand3.{above, In, IsReset, itself, Owns, resets, Revokes, revokes}
@@ -174,9 +174,9 @@ module _ (m : ℕ) (s : State) (t : List ℕ) (inv : Inv m s t) where
   apart k z e = k (rw (← e) z)
 
   -- derive and execute-only: a child in the segment of n
-  deed-derive : (q : Request) (n o l p c : ℕ) → at t n .kind ≢ 0 → newNumber s t ≢ 0 → 0 < l → o + l ≤ at t n .length → p < 8 → at t n .count < 65535 → s .next + 1 ≤ spent
+  deed-derive : (q : Request) (n o l p c : ℕ) → at t n .kind ≢ 0 → newNumber s t ≢ 0 → 0 < l → o + l ≤ at t n .length → p < 8 → within p (at t n .permissions) ≡ true → at t n .count < 65535 → s .next + 1 ≤ spent
       → Deed m s t q (carried s t (grantDerive t n o l p c))
-  deed-derive q n o l p c k f pos b hp hc hn =
+  deed-derive q n o l p c k f pos b hp hr hc hn =
       let in-n : n < size t = in-table t n k in
       let most : size t ≤ 1024 = inv .most in
       let low : n < 1024 = omega arith in
@@ -185,12 +185,12 @@ module _ (m : ℕ) (s : State) (t : List ℕ) (inv : Inv m s t) where
       deed-put2 q stay
       (omega arith)
       (issue-indirect m s (newNumber s t) n (inv .small) (inv .good n) low pos (omega arith) hp (omega arith))
-      (recount-good m (inv .good n) k (omega arith))
+      (recount-good m (inv .good n) k (omega arith) (λ i. omega arith))
       (number-first s t f .inside) in-n (apart k (number-first s t f .free))
       (omega (arith, owned-other (at t (newNumber s t)) (omega (arith, number-first s t f .free))))
       (kept refl (λ x h. refl) (λ h. (refl, refl)))
       (issued (omega arith) (omega arith) (List·Memᴰ·head refl)
-      (λ z. (refl, rw named-n (record { low = omega arith; high = omega arith })))
+      (λ z. (refl, rw named-n (record { low = omega arith; high = omega arith; rights = hr })))
       (λ z. absurd (omega arith))
       (λ h. absurd (omega (arith, h .direct, number-first s t f .free))))
       (λ i j v x. refl)
@@ -235,7 +235,7 @@ module _ (m : ℕ) (s : State) (t : List ℕ) (inv : Inv m s t) where
       let less : l ≢ at t n .length = eqb-false l (at t n .length) e in
       deed-put2 q (split n new y) (omega arith)
       (a-good (omega arith))
-      (issue-direct m s n (inv .small) (omega arith) (omega (arith, whole)) (omega (arith, fit)) (omega (arith, fit)) (omega arith))
+      (issue-direct m s n (inv .small) (omega arith) (omega (arith, whole)) (omega (arith, fit)) (omega (arith, fit)) (omega arith) (inv .good n .lockable k))
       (number-first s t f .inside) in-n (apart (omega arith) (number-first s t f .free))
       (omega (arith, owned-direct (at t n) k, owned-other (at t new) (omega (arith, number-first s t f .free))))
       (issued (omega arith) (omega arith) (List·Memᴰ·tail (List·Memᴰ·head refl)) (λ h. absurd (omega arith))
@@ -275,7 +275,7 @@ module _ (m : ℕ) (s : State) (t : List ℕ) (inv : Inv m s t) where
       vacant h = omega (arith, h .direct, number-first s t f .free)
 
       a-good : s .next < spent → Good m a
-      a-good h = issue-direct m s new (inv .small) (omega arith) (omega (arith, whole)) hu hp h
+      a-good h = issue-direct m s new (inv .small) (omega arith) (omega (arith, whole)) hu hp h (inv .good n .lockable k)
 
       part : (x : ℕ) → In a x → Source t (split n new y) new x
       part x i = record { from = n; has = record { direct = k; inside = omega arith }; to = split-front n new y x (i .1) }
@@ -306,7 +306,7 @@ module _ (m : ℕ) (s : State) (t : List ℕ) (inv : Inv m s t) where
       deed-put2 q (fuse n k) (omega arith)
       (free-good m)
       (issue-direct m s n (inv .small) (omega arith) (omega arith) (omega arith)
-      (omega (arith, and-le-l (at t n .permissions) (at t k .permissions))) (omega arith))
+      (omega (arith, and-le-l (at t n .permissions) (at t k .permissions))) (omega arith) (inv .good n .lockable d))
       (in-table t k (omega arith)) (in-table t n (omega arith))
       (λ e. let same : at t k .base ≡ at t n .base = ap (λ (x : ℕ). at t x .base) e in omega arith)
       (omega (arith, owned-direct (at t n) d, owned-direct (at t k) d′))
@@ -366,10 +366,10 @@ module _ (m : ℕ) (s : State) (t : List ℕ) (inv : Inv m s t) where
   climb-fades (suc f) s u n gs =
       by-cond Left (leb 2 (at u n .count))
       (λ i. put-fades u gs n (stays refl refl refl)
-      (recount-good m (gs n) (fitting m (at u n) (gs n) .counted (omega (arith, leb-true 2 (at u n .count) i))) (omega (arith, fitting m (at u n) (gs n)))))
+      (recount-good m (gs n) (fitting m (at u n) (gs n) .counted (omega (arith, leb-true 2 (at u n .count) i))) (omega (arith, fitting m (at u n) (gs n))) (λ k. omega (arith, leb-true 2 (at u n .count) i))))
       (λ i. by-cond Left (eqb (at u n .count) 0) (λ z. record { each = λ k. same (at u k); good = gs; long = refl })
       (λ z. by-cond Left (eqb (at u n .kind) 1)
-      (λ j. put-fades u gs n (stays refl refl refl) (recount-good m (gs n) (omega (arith, eqb-true (at u n .kind) 1 j)) (omega arith)))
+      (λ j. put-fades u gs n (stays refl refl refl) (recount-good m (gs n) (omega (arith, eqb-true (at u n .kind) 1 j)) (omega arith) (λ k. absurd (omega (arith, eqb-true (at u n .kind) 1 j)))))
       (λ j.
       let once : Fading u (put u n free) = put-fades u gs n (freed refl (eqb-false (at u n .kind) 1 j)) (free-good m) in
       by-cond (λ ws. Left (vacate n ∷ ws)) (linked u (at u n))
@@ -426,7 +426,7 @@ module _ (m : ℕ) (s : State) (t : List ℕ) (inv : Inv m s t) where
   pub revoked-good : (n : ℕ) → at t n .kind ≡ 1 → revokeNonce s t n < spent → Good m (issue s n (fresh (at t n) (revokeNonce s t n)))
   revoked-good n d hn =
       let whole = range m (at t n) (omega arith) (inv .good n .formed) in
-      issue-direct m s n (inv .small) (whole .0) (whole .1) (omega arith) (omega arith) (omega arith)
+      issue-direct m s n (inv .small) (whole .0) (whole .1) (omega arith) (omega arith) (omega arith) refl
 
   deed-revoke : (k c : ℕ) → at t (numberOf k) .kind ≡ 1 → revokeNonce s t (numberOf k) < spent → Deed m s t (revoke k c) (carried s t (grantRevoke t (numberOf k) c))
   deed-revoke k c d hn =
@@ -488,6 +488,7 @@ module _ (m : ℕ) (s : State) (t : List ℕ) (inv : Inv m s t) where
       (omega (arith, neqb-true l 0 (search)))
       (omega (arith, ltb-true (l + o) (e .length) (search)))
       (omega (arith, leb-true p 7 (search)))
+      (search)
       (ltb-true (e .count) 65535 (search))
       (leb-true (s .next + 1) spent (search))
   deed-granted (executeOnly k c) b nr h =
@@ -499,13 +500,14 @@ module _ (m : ℕ) (s : State) (t : List ℕ) (inv : Inv m s t) where
       (range m e full (inv .good (numberOf k) .formed) .0)
       (omega arith)
       (omega arith)
+      (search)
       (ltb-true (e .count) 65535 (search))
       (leb-true (s .next + 1) spent (search))
   deed-granted (clone k) b nr h =
       let e : Entry = namedEntry t k in
       let full : e .kind ≢ 0 = neqb-true (e .kind) 0 (search) in
       deed-put (clone k) (omega arith)
-      (recount-good m (inv .good (numberOf k)) full (omega (arith, ltb-true (e .count) 65535 (search))))
+      (recount-good m (inv .good (numberOf k)) full (omega (arith, ltb-true (e .count) 65535 (search))) (λ i. omega arith))
       full (record { kind = refl; base = refl; length = refl }) (kept refl (λ x h. refl) (λ h. (refl, refl))) (λ i x sh nr tc ins. spares x tc)
   deed-granted (release k) b nr h = deed-release k b
   deed-granted (lock k u) b nr h =

@@ -1,6 +1,7 @@
 -- 01's examples agree with the definitions, as one table: four packed tokens, the root entry, and cases 3, 4, 6 and 8 of the session.
 -- Assumes nothing.
-use mathlib.Core.Path.{refl}
+use mathlib.Core.Path.{refl, ap}
+use mathlib.Core.List.{[], _∷_}
 use Rattle.bits.specs.Bytes.{bytes, lowBytes, lowNumber, number}
 use Rattle.layout.specs.Entry.{directNumber, directOf, entryNumber, entryOf, indirectNumber, indirectOf}
 use Rattle.layout.specs.Examples.{Agree}
@@ -12,9 +13,16 @@ use Rattle.machine.specs.Issuing.{passOver, seek}
 use Rattle.machine.specs.Line.{walk}
 use Rattle.machine.specs.Operations.{climb}
 use Rattle.machine.specs.Parts.{at, cleared, put, size}
-use Rattle.machine.specs.Session.{examples}
-use Rattle.machine.specs.Steps.{decide}
+use Rattle.machine.specs.Session.{Answered, examples}
+use Rattle.machine.specs.Steps.{answer, decide, decision, step}
+use Rattle.machine.proofs.Lent.{as-long}
 
 pub examples-agree : Agree examples
 unfolding bytes number lowBytes lowNumber directNumber directOf entryNumber entryOf indirectNumber indirectOf illFormed within absorb add64 compress finish padded rotl siphash sipRound word tagOf passOver seek walk climb at cleared put size decide
 examples-agree = refl
+
+-- and its refusals are those of the machine's answers
+pub answered : Answered
+unfolding Answered step answer
+answered σ [] = refl
+answered σ (q ∷ qs) = ap (λ ns. decision σ q .reply .refusal ∷ ns) (rw (as-long σ q .memory) at (answered (step σ q) qs))

@@ -8,6 +8,7 @@ use Prim.Native.Nat.{ℕ, _+_, _≤_, _<_}
 use native.Mathlib.Omega.{arith}
 use lib.ListN.{length}
 use Rattle.layout.specs.declared.entry.Entry.{Entry}
+use Rattle.tokens.specs.Permissions.{within}
 use Rattle.machine.specs.Demand3.{In, Linked, Revokes}
 use Rattle.machine.specs.FromReset.{Has, Inside, Owned, ownedInAll}
 use Rattle.machine.specs.Line.{links, parentNumber}
@@ -56,7 +57,11 @@ linked-same t t′ n e f l =
 -- and one entry lies inside another if one with the same core does
 inside-same : (e p e′ p′ : Entry) → core e′ ≡ core e → core p′ ≡ core p → Inside e p → Inside e′ p′
 inside-same e p e′ p′ a b i =
-    omega (arith, ap (λ (x : Entry). x .base) a, ap (λ (x : Entry). x .length) a, ap (λ (x : Entry). x .base) b, ap (λ (x : Entry). x .length) b)
+    record {
+      low = omega (arith, ap (λ (x : Entry). x .base) a, ap (λ (x : Entry). x .base) b);
+      high = omega (arith, ap (λ (x : Entry). x .base) a, ap (λ (x : Entry). x .length) a, ap (λ (x : Entry). x .base) b, ap (λ (x : Entry). x .length) b);
+      rights = subst (λ (x : Entry). within (x .permissions) (p′ .permissions) ≡ true) (sym a) (subst (λ (x : Entry). within (e .permissions) (x .permissions) ≡ true) (sym b) (i .rights));
+    }
 
 -- ---- what holds from reset on, where the memory has m bytes
 

@@ -28,5 +28,7 @@ from-reset σ k0 k1 ν b ok after nr =
       formed = λ n k. inv .good n .formed;
       storable = λ n k. inv .good n .storable;
       below = inv .below;
+      lockable = λ n. inv .good n .lockable;
+      counted = λ n. inv .good n .counted;
       inside = inv .inside;
     }

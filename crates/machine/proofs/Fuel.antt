@@ -59,6 +59,19 @@ walk-owns (suc f) m t n k =
     kind-two (one i) d = absurd (d i)
     kind-two (two i) d = i
 
+-- and the owner is well-formed
+pub walk-formed : (f m : ℕ) (t : List ℕ) (n : ℕ) → Live (walk f m t n) → illFormed m (at t (ownerOf (walk f m t n))) ≡ false
+unfolding walk
+walk-formed zero m t n = λ h. absurd (false≢true (h .1))
+walk-formed (suc f) m t n =
+    by-cond P (illFormed m (at t n)) (λ w h. absurd (false≢true (h .0)))
+    (λ w. by-cond P (eqb (at t n .kind) 1)
+    (λ d h. w)
+    (λ d. by-cond P (linked t (at t n)) (λ l h. walk-formed f m t (parentNumber (at t n)) h) (λ l h. absurd (false≢true (h .1)))))
+  where
+    P : Line → Type 0
+    P x = Live x → illFormed m (at t (ownerOf x)) ≡ false
+
 -- two fuels above the first entry's nonce give the same line
 pub walk-fuel : (f g m : ℕ) (t : List ℕ) (n : ℕ) → at t n .nonce < f → at t n .nonce < g → walk f m t n ≡ walk g m t n
 unfolding walk

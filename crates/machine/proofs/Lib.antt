@@ -18,5 +18,6 @@ pub mod SliceLaws
 pub mod Sums
 pub mod TableLaws
 pub mod Theorem
+pub mod Unchanged
 pub mod WriteLaws
 pub mod Written

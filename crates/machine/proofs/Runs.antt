@@ -9,16 +9,16 @@ use native.Mathlib.Decide.{decLt}
 use lib.ListN.{length}
 use borrow.Author.Tests.{leb-true}
 use Rattle.layout.specs.declared.entry.Entry.{Entry}
-use Rattle.machine.specs.Demand3.{Accepted, IsReset, issuedIn, NoReset, resetCall}
+use Rattle.machine.specs.Demand3.{Accepted, IsReset, issuedIn, NoReset, resetCall, Unreset}
 use Rattle.machine.specs.FromReset.{ownedInAll}
 use Rattle.machine.specs.Operations.{carried, grantReset}
-use Rattle.machine.specs.Parts.{at, begun, cleared, mostEntries, mostMemory, put, root, size, State}
-use Rattle.machine.specs.Requests.{Call, Request, reset}
-use Rattle.machine.specs.Steps.{decide, decision, Machine, run, step}
+use Rattle.machine.specs.Parts.{at, begun, cleared, mostEntries, mostMemory, put, root, size}
+use Rattle.machine.specs.Requests.{Call, reset}
+use Rattle.machine.specs.Steps.{decision, Machine, run, step}
 use Rattle.machine.specs.Stops.{checks}
 use Rattle.machine.specs.Writes.{nameOf}
 use Rattle.machine.proofs.Basics.{put-all}
-use Rattle.machine.proofs.Decided.{accepted, by-decision, Passed}
+use Rattle.machine.proofs.Decided.{accepted, away, Passed, taken, Turned, turned}
 use Rattle.machine.proofs.Deeds.{deed-granted, deed-none}
 use Rattle.machine.proofs.Effects.{memory-long}
 use Rattle.machine.proofs.Fates.{core, Deed, Inv, inv-step, new-given, old-core, spares}
@@ -29,21 +29,25 @@ use Rattle.machine.proofs.Written.{direct-good, free-good, Good}
 
 -- ---- one request
 
-pub deed : (m : ℕ) (s : State) (t : List ℕ) (q : Request) (b : List ℕ) → Inv m s t → (IsReset q → ⊥) → Deed m s t q (decide m s t q b)
-deed m s t q b inv nr =
-    by-decision (Deed m s t q) m s t q b (deed-granted m s t inv q b nr) (λ r. deed-none m s t inv q (omega arith) (λ n x sh nr tc ins. spares x tc))
-
 -- what holds of a machine from reset on
 abbrev pub Well : Machine → Type 0
 Well σ = Inv (length (σ .memory)) (σ .state) (σ .table)
 
-abbrev pub NotReset : Call → Type 0
-NotReset q = IsReset (q .request) → ⊥
+-- the request is no granted reset
+abbrev pub NotReset : Machine → Call → Type 0
+NotReset σ q = IsReset (q .request) → Accepted σ q → ⊥
 
-pub deed-of : (σ : Machine) (q : Call) → Well σ → NotReset q → Deed (length (σ .memory)) (σ .state) (σ .table) (q .request) (decision σ q)
-deed-of σ q inv nr = deed (length (σ .memory)) (σ .state) (σ .table) (q .request) (q .buffer) inv nr
+pub deed-of : (σ : Machine) (q : Call) → Well σ → NotReset σ q → Deed (length (σ .memory)) (σ .state) (σ .table) (q .request) (decision σ q)
+deed-of σ q inv nr = go (turned σ q)
+  where
+    m : ℕ
+    m = length (σ .memory)
 
-module _ (σ : Machine) (q : Call) (inv : Well σ) (nr : NotReset q) where
+    go : Turned σ q → Deed m (σ .state) (σ .table) (q .request) (decision σ q)
+    go (taken a p e) = rw e (deed-granted m (σ .state) (σ .table) inv (q .request) (q .buffer) (λ i. nr i a) p)
+    go (away r e na) = rw e (deed-none m (σ .state) (σ .table) inv (q .request) (omega arith) (λ n x sh nr tc ins. spares x tc))
+
+module _ (σ : Machine) (q : Call) (inv : Well σ) (nr : NotReset σ q) where
   pub step-well : Well (step σ q)
   unfolding step
   step-well = rw memory-long (inv-step (length (σ .memory)) (σ .state) (σ .table) (q .request) (decision σ q) inv (deed-of σ q inv nr))
@@ -71,34 +75,39 @@ pub run-append : (σ : Machine) (a b : List Call) → run σ (a ++ b) ≡ run (r
 run-append σ [] b = refl
 run-append σ (q ∷ a) b = run-append (step σ q) a b
 
-pub none-append : (a b : List Call) → NoReset a → NoReset b → NoReset (a ++ b)
-none-append [] b n k = k
-none-append (q ∷ a) b n k = (n .0, none-append a b (n .1) k)
+pub none-append : (σ : Machine) (a b : List Call) → Unreset σ a → Unreset (run σ a) b → Unreset σ (a ++ b)
+none-append σ [] b n k = k
+none-append σ (q ∷ a) b n k = (n .0, none-append (step σ q) a b (n .1) k)
 
-pub none-split : (a b : List Call) → NoReset (a ++ b) → NoReset a × NoReset b
-none-split [] b n = (tt, n)
-none-split (q ∷ a) b n =
-    let rest = none-split a b (n .1) in
+pub none-split : (σ : Machine) (a b : List Call) → Unreset σ (a ++ b) → Unreset σ a × Unreset (run σ a) b
+none-split σ [] b n = (tt, n)
+none-split σ (q ∷ a) b n =
+    let rest = none-split (step σ q) a b (n .1) in
     ((n .0, rest .0), rest .1)
+
+-- none a reset, so none a granted one
+pub none-granted : (σ : Machine) (qs : List Call) → NoReset qs → Unreset σ qs
+none-granted σ [] n = tt
+none-granted σ (q ∷ qs) n = ((λ i a. n .0 i), none-granted (step σ q) qs (n .1))
 
 pub run-long : (σ : Machine) (qs : List Call) → length (run σ qs .memory) ≡ length (σ .memory)
 run-long σ [] = refl
 run-long σ (q ∷ qs) = run-long (step σ q) qs ∙ as-long σ q .memory
 
-pub run-well : (σ : Machine) (qs : List Call) → Well σ → NoReset qs → Well (run σ qs)
+pub run-well : (σ : Machine) (qs : List Call) → Well σ → Unreset σ qs → Well (run σ qs)
 run-well σ [] inv nr = inv
 run-well σ (q ∷ qs) inv nr = run-well (step σ q) qs (step-well σ q inv (nr .0)) (nr .1)
 
-pub run-up : (σ : Machine) (qs : List Call) → Well σ → NoReset qs → σ .state .next ≤ run σ qs .state .next
+pub run-up : (σ : Machine) (qs : List Call) → Well σ → Unreset σ qs → σ .state .next ≤ run σ qs .state .next
 run-up σ [] inv nr = omega arith
 run-up σ (q ∷ qs) inv nr = omega (arith, step-up σ q inv (nr .0), run-up (step σ q) qs (step-well σ q inv (nr .0)) (nr .1))
 
-pub run-sum : (σ : Machine) (qs : List Call) → Well σ → NoReset qs → ownedInAll (run σ qs .table) ≡ ownedInAll (σ .table)
+pub run-sum : (σ : Machine) (qs : List Call) → Well σ → Unreset σ qs → ownedInAll (run σ qs .table) ≡ ownedInAll (σ .table)
 run-sum σ [] inv nr = refl
 run-sum σ (q ∷ qs) inv nr = run-sum (step σ q) qs (step-well σ q inv (nr .0)) (nr .1) ∙ step-sum σ q inv (nr .0)
 
 -- an entry whose nonce was taken before is as it was then
-pub run-old : (σ : Machine) (qs : List Call) → Well σ → NoReset qs → (n : ℕ) → at (run σ qs .table) n .kind ≢ 0
+pub run-old : (σ : Machine) (qs : List Call) → Well σ → Unreset σ qs → (n : ℕ) → at (run σ qs .table) n .kind ≢ 0
     → at (run σ qs .table) n .nonce < σ .state .next → core (at (run σ qs .table) n) ≡ core (at (σ .table) n)
 run-old σ [] inv nr n k h = refl
 run-old σ (q ∷ qs) inv nr n k h =
@@ -107,7 +116,7 @@ run-old σ (q ∷ qs) inv nr n k h =
     later ∙ step-old σ q inv (nr .0) n (subst (λ (x : Entry). x .kind ≢ 0) later k) (subst (λ (x : Entry). x .nonce < σ .state .next) later h)
 
 -- an entry whose nonce was taken since was given since
-pub run-new : (σ : Machine) (qs : List Call) → Well σ → NoReset qs → (n : ℕ) → at (run σ qs .table) n .kind ≢ 0
+pub run-new : (σ : Machine) (qs : List Call) → Well σ → Unreset σ qs → (n : ℕ) → at (run σ qs .table) n .kind ≢ 0
     → σ .state .next ≤ at (run σ qs .table) n .nonce → List·Memᴰ (nameOf n (at (run σ qs .table) n)) (issuedIn σ qs)
 run-new σ [] inv nr n k h = absurd (omega (arith, inv .below n k))
 run-new σ (q ∷ qs) inv nr n k h =
@@ -134,7 +143,7 @@ module _ (m : ℕ) (t : List ℕ) (k0 k1 ν : ℕ) (lo : 1 ≤ m) (hi : m ≤ mo
   clean = put (cleared t) 0 (root m)
 
   root-good : Good m (root m)
-  root-good = direct-good m hi lo (omega arith) (omega arith) (omega arith) (omega arith) (omega arith)
+  root-good = direct-good m hi lo (omega arith) (omega arith) (omega arith) (omega arith) (omega arith) refl
 
   there : at clean 0 ≡ root m
   there = at-same (cleared t) 0 (root m) (root-good .storable) (omega (arith, size-cleared t))

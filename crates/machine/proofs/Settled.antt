@@ -1,4 +1,4 @@
--- The state stays as place 1 wants it: what a granted request leaves, and what any request but a reset keeps.
+-- The state stays as place 1 wants it: what a granted request leaves, and what any request but a granted reset keeps.
 -- Assumes nothing.
 use mathlib.Core.Path.{_≡_, refl}
 use mathlib.Core.List.{List, [], _∷_, _++_}
@@ -6,14 +6,14 @@ use Prim.Native.Nat.{ℕ, _≤_, _<_}
 use native.Mathlib.Omega.{arith}
 use lib.ListN.{length}
 use borrow.Author.Tests.{le-leb, leb-true, lt-ltb, ltb-true}
-use Rattle.machine.specs.Demand3.{Accepted, IsReset, NoReset, resetCall}
-use Rattle.machine.specs.Operations.{book, Decision, grant}
+use Rattle.machine.specs.Demand3.{Accepted, IsReset, resetCall, Unreset}
+use Rattle.machine.specs.Operations.{book, grant}
 use Rattle.machine.specs.Parts.{size, spent, State}
 use Rattle.machine.specs.Requests.{Call, Request, reset}
 use Rattle.machine.specs.Steps.{decision, Machine, run, step}
 use Rattle.machine.specs.Stops.{checks, settings, sizes}
 use Rattle.machine.specs.Writes.{opened}
-use Rattle.machine.proofs.Decided.{accepted, AllTrue, by-decision, nonces-passed, Passed, sizes-passed, true-join, true-split}
+use Rattle.machine.proofs.Decided.{accepted, AllTrue, away, nonces-passed, Passed, sizes-passed, taken, true-join, true-split, Turned, turned}
 use Rattle.machine.proofs.Grants.{granted-fits}
 use Rattle.machine.proofs.Lent.{as-long}
 use Rattle.machine.proofs.WriteLaws.{next-up, numbered-after}
@@ -48,7 +48,7 @@ settled σ q z h =
     let memory = as-long σ q .memory in
     rw (table, memory) (true-join (sizes (length (σ .memory)) (σ .table)) (settings (decision σ q .state) (σ .table)) z (lt-ltb _ _ (h .last), (le-leb _ _ (h .least), (le-leb _ _ (h .most), tt))))
 
--- after a granted reset, and after any request that is none
+-- after a granted reset, and after any request that is no granted reset
 pub settled-reset : (σ : Machine) (k0 k1 ν : ℕ) (b : List ℕ) → Accepted σ (resetCall k0 k1 ν b) → Settled (step σ (resetCall k0 k1 ν b))
 settled-reset σ k0 k1 ν b ok =
     let q : Request = reset k0 k1 ν in
@@ -63,16 +63,18 @@ settled-reset σ k0 k1 ν b ok =
       most = nonces-passed (length (σ .memory)) (σ .state) (σ .table) q b p;
     }))
 
-pub settled-step : (σ : Machine) (q : Call) → (IsReset (q .request) → ⊥) → Settled σ → Settled (step σ q)
+pub settled-step : (σ : Machine) (q : Call) → (IsReset (q .request) → Accepted σ q → ⊥) → Settled σ → Settled (step σ q)
 settled-step σ q nr h =
-    let m = length (σ .memory) in
     let p = true-split (sizes m (σ .table)) (settings (σ .state) (σ .table)) h in
-    let o = in-order (σ .state) (σ .table) (p .1) in
-    settled σ q (p .0)
-    (by-decision (λ (d : Decision). InOrder (size (σ .table)) (d .state)) m (σ .state) (σ .table) (q .request) (q .buffer)
-    (granted-order m (σ .state) (σ .table) (q .request) (q .buffer) nr o)
-    (λ r. o))
+    settled σ q (p .0) (go (in-order (σ .state) (σ .table) (p .1)) (turned σ q))
+  where
+    m : ℕ
+    m = length (σ .memory)
 
-pub settled-run : (σ : Machine) (qs : List Call) → NoReset qs → Settled σ → Settled (run σ qs)
+    go : InOrder (size (σ .table)) (σ .state) → Turned σ q → InOrder (size (σ .table)) (decision σ q .state)
+    go o (taken a p e) = rw e (granted-order m (σ .state) (σ .table) (q .request) (q .buffer) (λ i. nr i a) o p)
+    go o (away r e na) = rw e o
+
+pub settled-run : (σ : Machine) (qs : List Call) → Unreset σ qs → Settled σ → Settled (run σ qs)
 settled-run σ [] nr h = h
 settled-run σ (q ∷ qs) nr h = settled-run (step σ q) qs (nr .1) (settled-step σ q (nr .0) h)

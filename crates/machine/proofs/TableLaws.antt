@@ -1,21 +1,23 @@
 -- The table as bytes: an entry that was put is there, the others stay, and so does the length. Nothing else opens `at`, `put`, `size`, `cleared`.
 -- Assumes nothing.
-use mathlib.Core.Path.{_≡_, sym, _∙_, ap}
+use mathlib.Core.Path.{_≡_, sym, subst, _∙_, ap}
 use mathlib.Core.Logic.{_≢_}
+use mathlib.Core.Bool.{false}
 use mathlib.Core.List.{List, append-assoc}
 use Prim.Native.Nat.{ℕ, _*_, _/_, _≤_, _<_}
 use native.Mathlib.Omega.{arith}
 use native.Mathlib.Decide.{decLt}
-use lib.ListN.{length, take, drop, replicate, length-replicate, getD-replicate}
+use lib.ListN.{length, take, drop, replicate, length-replicate, getD-replicate, length-drop, length-take, take-append-drop}
 use lib.Seq.{sets, sets-eq, length-sets, drop-drop}
 use borrow.Author.Tests.{lt-ltb, le-ltb}
 use Rattle.layout.specs.Entry.{entryAt, entryBytes, entryNumber, free, Storable}
+use Rattle.layout.specs.Form.{illFormed}
 use Rattle.layout.specs.declared.entry.Entry.{Entry}
 use Rattle.bits.proofs.ByteLaws.{length-bytes}
-use Rattle.layout.proofs.FormLaws.{free-back, written-read}
+use Rattle.layout.proofs.FormLaws.{free-back, well-formed-back, written-read}
 use Rattle.machine.specs.Parts.{at, cleared, put, size}
 use Rattle.machine.specs.Lent.{AllBytes}
-use Rattle.machine.proofs.ByteLaws.{bytes-sets, bytes-zeros, entry-bytes}
+use Rattle.machine.proofs.ByteLaws.{bytes-drop, bytes-fit, bytes-sets, bytes-take, bytes-zeros, entry-bytes}
 use Rattle.machine.proofs.SliceLaws.{all-zeros, slice-agree, slice-same, sets-other}
 
 -- ---- reading and writing by number
@@ -78,6 +80,18 @@ in-table t n h = go (decLt n (size t))
     go : Dec (n < size t) → n < size t
     go (yes i) = i
     go (no i) = absurd (h (ap (λ (e : Entry). e .kind) (at-out t n (omega arith))))
+
+-- an entry that is neither free nor ill-formed, put where it stands, leaves every byte
+pub put-back : (m : ℕ) (t : List ℕ) (n : ℕ) → AllBytes t → at t n .kind ≢ 0 → illFormed m (at t n) ≡ false → put t n (at t n) ≡ t
+unfolding put size
+put-back m t n b f h =
+    let i : n < length t / 32 = in-table t n f in
+    let s : List ℕ = take 32 (drop (32 * n) t) in
+    let r : at t n ≡ entryAt s = at-in t n i in
+    let l : length s ≡ 32 = simp (length-take, length-drop) (omega arith) in
+    let same : entryBytes (entryAt s) ≡ s =
+    well-formed-back m s (bytes-fit 32 s l (bytes-take 32 (drop (32 * n) t) (bytes-drop (32 * n) t b))) (subst (λ (e : Entry). e .kind ≢ 0) r f) (subst (λ (e : Entry). illFormed m e ≡ false) r h) in
+    rw (lt-ltb n (length t / 32) i, r, same, take-append-drop 32 (drop (32 * n) t), take-append-drop (32 * n) t)
 
 -- ---- a cleared table
 

@@ -12,7 +12,7 @@ use lib.Seq.{ext-getD}
 use borrow.Author.Tests.{eqb-true, leb-true}
 use Rattle.tokens.specs.Token.{named}
 use Rattle.layout.specs.declared.entry.Entry.{Entry}
-use Rattle.machine.specs.Demand3.{above, Accepted, Alike, Closed, Demand3, In, IsReset, issuedIn, itself, LockedFor, NoneCarries, NoReset, Owns, resetCall, Revokes, revokes, Under, Unrevoked}
+use Rattle.machine.specs.Demand3.{above, Accepted, Alike, Closed, Demand3, In, IsReset, issuedIn, itself, LockedFor, NoneCarries, NoReset, Owns, resetCall, Revokes, revokes, Under, Unreset, Unrevoked}
 use Rattle.machine.specs.Issuing.{issue}
 use Rattle.machine.specs.Line.{lineOf, ownerOf, parentNumber}
 use Rattle.machine.specs.Operations.{carried, Decision, fresh, grant, grantRevoke, numberOf, revokeNonce, store}
@@ -27,7 +27,7 @@ use Rattle.machine.proofs.Deeds.{revoked-good}
 use Rattle.machine.proofs.Effects.{buffer-agree, memory-agree, memory-long, memory-other, zeros}
 use Rattle.machine.proofs.Fates.{core, Deed, Fate, gone, issued, kept, linked-same, Shut, shut-stays, spares, Touches}
 use Rattle.machine.proofs.Fuel.{Live, revoke-least, walk-owns}
-use Rattle.machine.proofs.Runs.{deed-of, none-append, none-split, NotReset, run-append, run-new, run-old, run-up, run-well, step-up, step-well, Well, well-reset}
+use Rattle.machine.proofs.Runs.{deed-of, none-append, none-granted, none-split, NotReset, run-append, run-new, run-old, run-up, run-well, step-up, step-well, Well, well-reset}
 use Rattle.machine.proofs.SliceLaws.{all-zeros}
 use Rattle.machine.proofs.TableLaws.{at-same, in-table}
 use Rattle.machine.proofs.Written.{Good}
@@ -48,7 +48,7 @@ record Guard (σ : Machine) (s : ℕ) (d : Decision) : Type 0 where
   holder : at (d .table) s .holder ≡ at (σ .table) s .holder
   untouched : (x : ℕ) → Touches (d .effect) x → In (at (σ .table) s) x → ⊥
 
-guard : (σ : Machine) (s t : ℕ) (q : Call) → Well σ → NotReset q → LockedFor σ s t → taskOf (q .request) ≢ t → Spares σ q s → Guard σ s (decision σ q)
+guard : (σ : Machine) (s t : ℕ) (q : Call) → Well σ → NotReset σ q → LockedFor σ s t → taskOf (q .request) ≢ t → Spares σ q s → Guard σ s (decision σ q)
 guard σ s t q inv nr l h r = go (turned σ q)
   where
     sh : Shut (taskOf (q .request)) (at (σ .table) s)
@@ -74,7 +74,7 @@ record Held (σ τ : Machine) (s t : ℕ) : Type 0 where
   lock : LockedFor τ s t
   same : core (at (τ .table) s) ≡ core (at (σ .table) s)
 
-lock-run : (σ : Machine) (s t : ℕ) (qs : List Call) → Well σ → NoReset qs → LockedFor σ s t → NoneCarries t qs → Unrevoked σ qs s → Held σ (run σ qs) s t
+lock-run : (σ : Machine) (s t : ℕ) (qs : List Call) → Well σ → Unreset σ qs → LockedFor σ s t → NoneCarries t qs → Unrevoked σ qs s → Held σ (run σ qs) s t
 lock-run σ s t [] inv nr l n u = record { lock = l; same = refl }
 lock-run σ s t (q ∷ qs) inv nr l n u =
     let g : Guard σ s (decision σ q) = guard σ s t q inv (nr .0) l (n .0) (u .0) in
@@ -119,7 +119,7 @@ revoke-nonce σ s r inv w =
     rw (w .done, new) up
 
 -- a walk whose first nonce is old was the same walk then
-owns-old : (σ : Machine) (qs : List Call) → Well σ → NoReset qs → {n k : ℕ} → Owns (run σ qs .table) n k → at (run σ qs .table) n .nonce < σ .state .next
+owns-old : (σ : Machine) (qs : List Call) → Well σ → Unreset σ qs → {n k : ℕ} → Owns (run σ qs .table) n k → at (run σ qs .table) n .nonce < σ .state .next
     → Owns (σ .table) n k × (at (run σ qs .table) k .nonce < σ .state .next)
 owns-old σ qs inv nr (itself {n = n} k) h =
     let e : core (at (run σ qs .table) n) ≡ core (at (σ .table) n) = run-old σ qs inv nr n (omega arith) h in
@@ -134,8 +134,8 @@ owns-old σ qs inv nr (above {n = n} {m = i} l o) h =
     (above (linked-same (σ .table) u n e f l) (subst (λ (x : Entry). Owns (σ .table) (parentNumber x) i) e (ih .0)), ih .1)
 
 -- The revocation half. ρ is what reset left; A stands where the token was given, B before the revoke, C after it, D at the end.
-module _ (ρ : Machine) (inv₀ : Well ρ) (after qs : List Call) (nr : NoReset (after ++ qs)) (s t : ℕ) (lk : LockedFor (run ρ after) s t) (n : NoneCarries t qs)
-    (un : Unrevoked (run ρ after) qs s) (r : Call) (v : Revokes (r .request) s) (acc : Accepted (run ρ (after ++ qs)) r) (zs : List Call) (nz : NoReset zs)
+module _ (ρ : Machine) (inv₀ : Well ρ) (after qs : List Call) (nr : Unreset ρ (after ++ qs)) (s t : ℕ) (lk : LockedFor (run ρ after) s t) (n : NoneCarries t qs)
+    (un : Unrevoked (run ρ after) qs s) (r : Call) (v : Revokes (r .request) s) (acc : Accepted (run ρ (after ++ qs)) r) (zs : List Call) (nz : Unreset (step (run ρ (after ++ qs)) r) zs)
     (a b : List Call) (ab : a ++ b ≡ after ++ qs) (k : Name) (u : Under (run ρ a .table) (at (run ρ after .table) s) k)
     (fr : List·Memᴰ k (issuedIn (run ρ a) (b ++ (r ∷ zs))) → ⊥) where
   abbrev A : Machine
@@ -150,14 +150,11 @@ module _ (ρ : Machine) (inv₀ : Well ρ) (after qs : List Call) (nr : NoReset 
   abbrev D : Machine
   D = run C zs
 
-  none-ab : NoReset a × NoReset b
-  none-ab = none-split a b (rw ab nr)
+  none-ab : Unreset ρ a × Unreset A b
+  none-ab = none-split ρ a b (subst (λ l. Unreset ρ l) (sym ab) nr)
 
-  none-r : NotReset r
-  none-r i = no-reset v i
-
-  none-on : NoReset (b ++ (r ∷ zs))
-  none-on = none-append b (r ∷ zs) (none-ab .1) (none-r, nz)
+  none-r : NotReset B r
+  none-r i x = no-reset v i
 
   A-inv : Well A
   A-inv = run-well ρ a inv₀ (none-ab .0)
@@ -172,6 +169,9 @@ module _ (ρ : Machine) (inv₀ : Well ρ) (after qs : List Call) (nr : NoReset 
   A→B : run A b ≡ B
   A→B = sym (run-append ρ a b) ∙ ap (λ l. run ρ l) ab
 
+  none-on : Unreset A (b ++ (r ∷ zs))
+  none-on = none-append A b (r ∷ zs) (none-ab .1) (subst (λ (σ : Machine). Unreset σ (r ∷ zs)) (sym A→B) (none-r, nz))
+
   A→D : run A (b ++ (r ∷ zs)) ≡ D
   A→D = run-append A b (r ∷ zs) ∙ ap (λ σ. run (step σ r) zs) A→B
 
@@ -180,7 +180,7 @@ module _ (ρ : Machine) (inv₀ : Well ρ) (after qs : List Call) (nr : NoReset 
 
   B-held : Held (run ρ after) B s t
   B-held =
-      let parts = none-split after qs nr in
+      let parts = none-split ρ after qs nr in
       subst (λ (σ : Machine). Held (run ρ after) σ s t) (sym (run-append ρ after qs)) (lock-run (run ρ after) s t qs (run-well ρ after inv₀ (parts .0)) (parts .1) lk n un)
 
   -- an entry of D that is older than A is the same in A, in B and in C
@@ -278,7 +278,7 @@ module _ (e : Entry) (s t : ℕ) (τ₁ τ₂ : Machine) (tw : Twin e s t τ₁ 
   same-outside x i = memory-agree (decision τ₁ q .effect) (τ₁ .memory) (τ₂ .memory) x (tw .alike .long) (tw .alike .outside x i)
 
   -- a request of another task that is no accepted revoke of the segment
-  module _ (nr : NotReset q) (h : taskOf (q .request) ≢ t) (r : Spares τ₁ q s) where
+  module _ (nr : NotReset τ₁ q) (h : taskOf (q .request) ≢ t) (r : Spares τ₁ q s) where
     g : Guard τ₁ s (decision τ₁ q)
     g = guard τ₁ s t q (tw .inv) nr (tw .lock) h r
 
@@ -347,7 +347,7 @@ data Revoke (σ : Machine) (q : Call) (s : ℕ) : Type 0 where
   isnt : Spares σ q s → Revoke σ q s
 
 -- the nonce of the locked entry tells: only a revoke issues it anew
-revoked-or-not : (σ : Machine) (s t : ℕ) (q : Call) → Well σ → NotReset q → LockedFor σ s t → taskOf (q .request) ≢ t → Revoke σ q s
+revoked-or-not : (σ : Machine) (s t : ℕ) (q : Call) → Well σ → NotReset σ q → LockedFor σ s t → taskOf (q .request) ≢ t → Revoke σ q s
 unfolding step
 revoked-or-not σ s t q inv nr lk h = go (turned σ q) (decLt (at (decision σ q .table) s .nonce) (σ .state .next))
   where
@@ -382,8 +382,8 @@ twin-run : (e : Entry) (s t : ℕ) (τ₁ τ₂ : Machine) (qs : List Call) → 
 twin-run e s t τ₁ τ₂ [] tw nr n u = record { twin = tw; bytes = λ x i. refl }
 twin-run e s t τ₁ τ₂ (q ∷ qs) tw nr n u =
     let k : Kept e s t (step τ₁ q) (run (step τ₁ q) qs) (run (step τ₂ q) qs) =
-    twin-run e s t (step τ₁ q) (step τ₂ q) qs (calm e s t τ₁ τ₂ tw q (nr .0) (n .0) (u .0)) (nr .1) (n .1) (u .1) in
-    record { twin = k .twin; bytes = λ x i. k .bytes x i ∙ calm-keeps e s t τ₁ τ₂ tw q (nr .0) (n .0) (u .0) x i }
+    twin-run e s t (step τ₁ q) (step τ₂ q) qs (calm e s t τ₁ τ₂ tw q (λ i a. nr .0 i) (n .0) (u .0)) (nr .1) (n .1) (u .1) in
+    record { twin = k .twin; bytes = λ x i. k .bytes x i ∙ calm-keeps e s t τ₁ τ₂ tw q (λ i a. nr .0 i) (n .0) (u .0) x i }
 
 -- the answers are the same, and the copies agree outside the segment, revoked or not
 record Same (e : Entry) (τ₁ τ₂ : Machine) (qs : List Call) : Type 0 where
@@ -393,13 +393,13 @@ record Same (e : Entry) (τ₁ τ₂ : Machine) (qs : List Call) : Type 0 where
 same-run : (e : Entry) (s t : ℕ) (τ₁ τ₂ : Machine) (qs : List Call) → Twin e s t τ₁ τ₂ → NoReset qs → NoneCarries t qs → Same e τ₁ τ₂ qs
 same-run e s t τ₁ τ₂ [] tw nr n = record { said = refl; left = tw .alike }
 same-run e s t τ₁ τ₂ (q ∷ qs) tw nr n =
-    go (λ r. same-run e s t (step τ₁ q) (step τ₂ q) qs (calm e s t τ₁ τ₂ tw q (nr .0) (n .0) r) (nr .1) (n .1)) (revoked-or-not τ₁ s t q (tw .inv) (nr .0) (tw .lock) (n .0))
+    go (λ r. same-run e s t (step τ₁ q) (step τ₂ q) qs (calm e s t τ₁ τ₂ tw q (λ i a. nr .0 i) (n .0) r) (nr .1) (n .1)) (revoked-or-not τ₁ s t q (tw .inv) (λ i a. nr .0 i) (tw .lock) (n .0))
   where
     next : answer τ₁ q ≡ answer τ₂ q → Same e (step τ₁ q) (step τ₂ q) qs → Same e τ₁ τ₂ (q ∷ qs)
     next a k = record { said = ap₂ (λ x y. x ∷ y) a (k .said); left = k .left }
 
     other : (Spares τ₁ q s → Same e (step τ₁ q) (step τ₂ q) qs) → Spares τ₁ q s → Same e τ₁ τ₂ (q ∷ qs)
-    other f r = next (calm-answer e s t τ₁ τ₂ tw q (nr .0) (n .0) r) (f r)
+    other f r = next (calm-answer e s t τ₁ τ₂ tw q (λ i a. nr .0 i) (n .0) r) (f r)
 
     go : (Spares τ₁ q s → Same e (step τ₁ q) (step τ₂ q) qs) → Revoke τ₁ q s → Same e τ₁ τ₂ (q ∷ qs)
     go f (isnt r) = other f r
@@ -416,7 +416,7 @@ unrevoked-same : (e : Entry) (s t : ℕ) (τ₁ τ₂ : Machine) (qs : List Call
 unrevoked-same e s t τ₁ τ₂ [] tw nr n u = tt
 unrevoked-same e s t τ₁ τ₂ (q ∷ qs) tw nr n u = (
   (λ v a. u .0 v (accepted-same e τ₂ τ₁ q (alike-sym (tw .alike)) a)),
-  unrevoked-same e s t (step τ₁ q) (step τ₂ q) qs (calm e s t τ₁ τ₂ tw q (nr .0) (n .0) (u .0)) (nr .1) (n .1) (u .1),
+  unrevoked-same e s t (step τ₁ q) (step τ₂ q) qs (calm e s t τ₁ τ₂ tw q (λ i a. nr .0 i) (n .0) (u .0)) (nr .1) (n .1) (u .1),
 )
 
 -- ---- the whole
@@ -465,7 +465,7 @@ demand3 σ k0 k1 ν buffer ok after nr s t lk τ₁ τ₂ a b qs nq nc =
           let one : step (run τ₁ qs) r ≡ step (run ρ (after ++ qs)) r = rw there (wipe-equal e s t (run τ₁ qs) (run (run ρ after) qs) tr r (f .names) (f .accepted)) in
           let w : From σ first (after ++ qs) x q y = from σ first (after ++ qs) x q y xy in
           rw one
-          (shut-off ρ inv₀ after qs (none-append after qs nr nq) s t lk nc (unrevoked-same e s t τ₁ (run ρ after) qs ts nq nc (f .before)) r (f .names) acc zs nz
+          (shut-off ρ inv₀ after qs (none-append ρ after qs nr (none-granted (run ρ after) qs nq)) s t lk nc (unrevoked-same e s t τ₁ (run ρ after) qs ts nq nc (f .before)) r (f .names) acc zs (subst (λ (x : Machine). Unreset x zs) one nz)
           (w .way) y (w .all) k (rw (w .comes) u) (rw (w .comes) fr));
     }
   where

@@ -25,10 +25,12 @@ use Rattle.machine.specs.Operations.{tokenOf}
 use Rattle.machine.specs.Parts.{mostMemory, spent, State}
 use Rattle.machine.proofs.Basics.{some-false}
 
--- packed with nothing lost, and well-formed in a memory of m bytes
+-- packed with nothing lost, and well-formed in a memory of m bytes; Lockable if it is direct, counted if it is indirect
 pub record Good (m : ℕ) (e : Entry) : Type 0 where
   pub storable : Storable e
   pub formed : illFormed m e ≡ false
+  pub lockable : e .kind ≡ 1 → e .lockable ≡ true
+  pub counted : e .kind ≡ 2 → 1 ≤ e .count
 
 -- ---- what a good entry has
 
@@ -59,7 +61,7 @@ fitting m e g = go (g .storable)
 
 pub free-good : (m : ℕ) → Good m free
 unfolding illFormed
-free-good m = record { storable = isFree refl; formed = refl }
+free-good m = record { storable = isFree refl; formed = refl; lockable = λ k. absurd (omega arith); counted = λ k. absurd (omega arith) }
 
 tag-small : (k0 k1 : ℕ) (e : Entry) (n : ℕ) → tagOf k0 k1 e n < 65536
 unfolding tagOf
@@ -69,17 +71,19 @@ bit-small : (b : Bool) → bit b < 2
 bit-small true = omega arith
 bit-small false = omega arith
 
-pub direct-good : (m : ℕ) {b l u p : ℕ} {k : Bool} {g ν : ℕ} → m ≤ mostMemory → 0 < l → b + l ≤ m → u < 2 ^ 64 → p < 8 → g < 65536 → ν < spent → Good m (direct b l u p k g ν)
+pub direct-good : (m : ℕ) {b l u p : ℕ} {k : Bool} {g ν : ℕ} → m ≤ mostMemory → 0 < l → b + l ≤ m → u < 2 ^ 64 → p < 8 → g < 65536 → ν < spent → k ≡ true → Good m (direct b l u p k g ν)
 unfolding illFormed
-direct-good m {b} {l} {u} {p} {k} {g} {ν} h1 h2 h3 h4 h5 h6 h7 =
+direct-good m {b} {l} {u} {p} {k} {g} {ν} h1 h2 h3 h4 h5 h6 h7 h8 =
     record {
       storable = isDirect refl refl refl (omega (arith, bit-small k));
       formed = rw (ne-eqb l 0 (omega arith), le-ltb m (b + l) h3);
+      lockable = λ i. h8;
+      counted = λ i. absurd (omega arith);
     }
 
-pub issue-direct : (m : ℕ) (s : State) (n : ℕ) {b l u p : ℕ} {k : Bool} {ν : ℕ} → m ≤ mostMemory → 0 < l → b + l ≤ m → u < 2 ^ 64 → p < 8 → ν < spent → Good m (issue s n (direct b l u p k 0 ν))
-issue-direct m s n {b} {l} {u} {p} {k} {ν} h1 h2 h3 h4 h5 h6 =
-    direct-good m h1 h2 h3 h4 h5 (tag-small (s .key0) (s .key1) (direct b l u p k 0 ν) n) h6
+pub issue-direct : (m : ℕ) (s : State) (n : ℕ) {b l u p : ℕ} {k : Bool} {ν : ℕ} → m ≤ mostMemory → 0 < l → b + l ≤ m → u < 2 ^ 64 → p < 8 → ν < spent → k ≡ true → Good m (issue s n (direct b l u p k 0 ν))
+issue-direct m s n {b} {l} {u} {p} {k} {ν} h1 h2 h3 h4 h5 h6 h7 =
+    direct-good m h1 h2 h3 h4 h5 (tag-small (s .key0) (s .key1) (direct b l u p k 0 ν) n) h6 h7
 
 -- what a parent token names
 abbrev names : ℕ → Entry → Named
@@ -101,11 +105,13 @@ issue-indirect m s k n {e} {b} {l} {p} {ν} h1 good h2 h3 h4 h5 h6 =
     record {
       storable = isIndirect refl refl refl (omega (arith, tag-small (s .key0) (s .key1) (indirect b l (tokenOf 1 n e) p 0 ν) k));
       formed = rw (ne-eqb l 0 (omega arith), le-ltb m (b + l) h4, encoding-of 1 (names n e) (omega arith) fit);
+      lockable = λ i. absurd (omega arith);
+      counted = λ i. omega arith;
     }
 
-pub recount-good : (m : ℕ) {e : Entry} {k : ℕ} → Good m e → e .kind ≢ 0 → k < 65536 → Good m (recounted e k)
+pub recount-good : (m : ℕ) {e : Entry} {k : ℕ} → Good m e → e .kind ≢ 0 → k < 65536 → (e .kind ≡ 2 → 1 ≤ k) → Good m (recounted e k)
 unfolding illFormed
-recount-good m {e} {k} g n h = record { storable = go (g .storable); formed = same (e .kind) ∙ g .formed }
+recount-good m {e} {k} g n h c = record { storable = go (g .storable); formed = same (e .kind) ∙ g .formed; lockable = g .lockable; counted = c }
   where
     go : Storable e → Storable (recounted e k)
     go (isFree i) = absurd (n (ap (λ (x : Entry). x .kind) i))
@@ -121,7 +127,7 @@ recount-good m {e} {k} g n h = record { storable = go (g .storable); formed = sa
 -- the holder is zero just if the entry is not locked
 pub relock-good : (m : ℕ) {e : Entry} {locked : Bool} {h : ℕ} → Good m e → e .kind ≡ 1 → h < 2 ^ 55 → (locked && eqb h 0) ≡ false → (not locked && not (eqb h 0)) ≡ false → Good m (relocked e locked h)
 relock-good m {e} {locked} {h} g k l a b =
-    record { storable = go (g .storable); formed = ill-as m (relocked e locked h) k ∙ formed (sym (ill-as m e k) ∙ g .formed) }
+    record { storable = go (g .storable); formed = ill-as m (relocked e locked h) k ∙ formed (sym (ill-as m e k) ∙ g .formed); lockable = g .lockable; counted = g .counted }
   where
     go : Storable e → Storable (relocked e locked h)
     go (isFree i) = absurd (omega (arith, ap (λ (x : Entry). x .kind) i))

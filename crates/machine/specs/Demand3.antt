@@ -36,6 +36,10 @@ pub record Alike (e : Entry) (σ τ : Machine) : Type 0 where
 
 -- ---- lists of requests
 
+-- "Accepted means granted."
+abbrev pub Accepted : Machine → Call → Type 0
+Accepted σ q = answer σ q .reply .refusal ≡ 0
+
 -- "none a reset"
 pub data IsReset : Request → Type 0 where
   resets : {k0 k1 ν : ℕ} → IsReset (reset k0 k1 ν)
@@ -44,14 +48,15 @@ abbrev pub NoReset : List Call → Type 0
 NoReset [] = Unit {0}
 NoReset (q ∷ qs) = (IsReset (q .request) → ⊥) × NoReset qs
 
+-- none of the requests is a granted reset: a refused one changes nothing, and may stand anywhere
+abbrev pub Unreset : Machine → List Call → Type 0
+Unreset σ [] = Unit {0}
+Unreset σ (q ∷ qs) = (IsReset (q .request) → Accepted σ q → ⊥) × Unreset (step σ q) qs
+
 -- "none carrying t"
 abbrev pub NoneCarries : ℕ → List Call → Type 0
 NoneCarries t [] = Unit {0}
 NoneCarries t (q ∷ qs) = (taskOf (q .request) ≢ t) × NoneCarries t qs
-
--- "Accepted means granted."
-abbrev pub Accepted : Machine → Call → Type 0
-Accepted σ q = answer σ q .reply .refusal ≡ 0
 
 -- "a revoke naming the entry is a revoke of it"
 pub data Revokes : Request → ℕ → Type 0 where
@@ -117,7 +122,7 @@ pub record Secret (σ : Machine) (h : List Call) (s : ℕ) (e : Entry) (τ₁ τ
   -- under it opens an access, unless the same number and tag were issued again after that token was given." The token k was given by the
   -- request q; zs is what follows the revoke r.
   pub closed :
-      (r : Call) → FirstRevoke τ₁ s qs r → (zs : List Call) → NoReset zs
+      (r : Call) → FirstRevoke τ₁ s qs r → (zs : List Call) → Unreset (step (run τ₁ qs) r) zs
       → (a : List Call) (q : Call) (b : List Call) → a ++ (q ∷ b) ≡ h ++ qs
       → (k : Name) → List·Memᴰ k (decision (run σ a) q .issued)
       → Under (step (run σ a) q .table) e k
@@ -132,7 +137,7 @@ unfoldable pub Demand3 : Type 0
 Demand3 =
     -- "For every list of one reset and any requests after it, refused ones included,"
     (σ : Machine) (k0 k1 ν : ℕ) (b : List ℕ) → Accepted σ (resetCall k0 k1 ν b) →
-    (after : List Call) → NoReset after →
+    (after : List Call) → Unreset (step σ (resetCall k0 k1 ν b)) after →
     let h : List Call = resetCall k0 k1 ν b ∷ after in
     -- "that leaves a direct segment locked for task t:"
     (s t : ℕ) → LockedFor (run σ h) s t →

@@ -1,8 +1,8 @@
--- What holds from reset on (01, "Operations"), whatever requests but a reset follow.
+-- What holds from reset on (01, "Operations"), whatever requests but a granted reset follow.
 -- Assumes nothing.
 use mathlib.Core.Path.{_≡_}
 use mathlib.Core.Logic.{_≢_}
-use mathlib.Core.Bool.{cond, false}
+use mathlib.Core.Bool.{cond, false, true}
 use mathlib.Core.List.{List, _∷_, _++_}
 use Prim.Native.Nat.{ℕ, zero, suc, _+_, _≤_, _<_}
 use lib.Dec.{eqb}
@@ -10,11 +10,12 @@ use lib.ListN.{length}
 use Rattle.layout.specs.Entry.{Storable}
 use Rattle.layout.specs.Form.{illFormed}
 use Rattle.layout.specs.declared.entry.Entry.{Entry}
-use Rattle.machine.specs.Demand3.{Accepted, In, Linked, NoReset, resetCall}
+use Rattle.tokens.specs.Permissions.{within}
+use Rattle.machine.specs.Demand3.{Accepted, In, Linked, resetCall, Unreset}
 use Rattle.machine.specs.Line.{parentNumber}
 use Rattle.machine.specs.Parts.{at, size}
 use Rattle.machine.specs.Requests.{Call}
-use Rattle.machine.specs.Steps.{Machine, pass, run, verdict}
+use Rattle.machine.specs.Steps.{Machine, pass, run, step, verdict}
 use Rattle.machine.specs.Stops.{atRequest, needAll, settings, sizes}
 
 -- how many bytes an entry owns: a direct one its length, any other none
@@ -39,10 +40,11 @@ pub record Owned (t : List ℕ) (x : ℕ) : Type 0 where
   pub owner : ℕ
   pub has : Has t owner x
 
--- the segment of e lies in that of p
+-- the segment of e lies in that of p, and its permissions within those of p
 pub record Inside (e p : Entry) : Type 0 where
   pub low : p .base ≤ e .base
   pub high : e .base + e .length ≤ p .base + p .length
+  pub rights : within (e .permissions) (p .permissions) ≡ true
 
 -- the machine is in order
 pub record Sound (σ : Machine) : Type 0 where
@@ -57,12 +59,15 @@ pub record Sound (σ : Machine) : Type 0 where
   pub formed : (n : ℕ) → at (σ .table) n .kind ≢ 0 → illFormed (length (σ .memory)) (at (σ .table) n) ≡ false
   pub storable : (n : ℕ) → at (σ .table) n .kind ≢ 0 → Storable (at (σ .table) n)
   pub below : (n : ℕ) → at (σ .table) n .kind ≢ 0 → at (σ .table) n .nonce < σ .state .next
+  -- a direct entry is Lockable; an indirect one has a count of at least 1
+  pub lockable : (n : ℕ) → at (σ .table) n .kind ≡ 1 → at (σ .table) n .lockable ≡ true
+  pub counted : (n : ℕ) → at (σ .table) n .kind ≡ 2 → 1 ≤ at (σ .table) n .count
   -- an entry whose link holds lies inside its parent
   pub inside : (n : ℕ) → Linked (σ .table) n → Inside (at (σ .table) n) (at (σ .table) (parentNumber (at (σ .table) n)))
 
--- after every granted reset and any list of requests without a reset
+-- after every granted reset and any list of requests without a granted reset
 unfoldable pub FromReset : Type 0
 FromReset =
     (σ : Machine) (k0 k1 ν : ℕ) (b : List ℕ) → Accepted σ (resetCall k0 k1 ν b) →
-    (after : List Call) → NoReset after →
+    (after : List Call) → Unreset (step σ (resetCall k0 k1 ν b)) after →
     Sound (run σ (resetCall k0 k1 ν b ∷ after))

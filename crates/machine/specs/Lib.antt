@@ -12,4 +12,5 @@ pub mod Searches
 pub mod Session
 pub mod Steps
 pub mod Stops
+pub mod Unchanged
 pub mod Writes

@@ -1,30 +1,39 @@
--- The first cases of 01's session ("Sessions to hold against"): 65,536 bytes, 4 entries, key 0, first nonce 1, task 0 unless named. Its cases look at no byte of
--- memory, so that they are had from its length.
+-- The first cases of 01's session ("Sessions to hold against"): 65,536 bytes, 4 entries, key 0, first nonce 1, task 0 unless named. No decision looks at a byte
+-- of memory, so that they are had from its length.
 -- Assumes nothing.
+use mathlib.Core.Path.{_≡_}
 use mathlib.Core.List.{List, [], _∷_, _++_}
 use Prim.Native.Nat.{ℕ}
-use lib.ListN.{getD, replicate}
-use Rattle.layout.specs.Examples.{packedExamples, Row}
+use lib.ListN.{getD, length, replicate, take}
+use Rattle.layout.specs.Examples.{packedTokens, printedRoot, Row}
 use Rattle.tokens.specs.Permissions.{R}
 use Rattle.tokens.specs.Token.{token}
 use Rattle.machine.specs.Operations.{Decision}
 use Rattle.machine.specs.Parts.{State}
 use Rattle.machine.specs.Requests.{access, Call, create, derive, lock, reading, Request, reset}
-use Rattle.machine.specs.Steps.{decide}
+use Rattle.machine.specs.Steps.{Answer, answers, decide, Machine}
 
 abbrev pub bytes65536 : ℕ
 bytes65536 = 65536
 
--- the decisions on a list of calls, one after the other
-abbrev pub decisions : State → List ℕ → List Call → List Decision
-decisions s t [] = []
-decisions s t (q ∷ qs) =
-    let d = decide bytes65536 s t (q .request) (q .buffer) in
-    d ∷ decisions (d .state) (d .table) qs
+-- the decisions on a list of calls, one after the other, over a memory of m bytes
+abbrev pub decisions : ℕ → State → List ℕ → List Call → List Decision
+decisions m s t [] = []
+decisions m s t (q ∷ qs) =
+    let d = decide m s t (q .request) (q .buffer) in
+    d ∷ decisions m (d .state) (d .table) qs
 
 abbrev pub refusals : List Decision → List ℕ
 refusals [] = []
 refusals (d ∷ ds) = d .reply .refusal ∷ refusals ds
+
+-- these are the refusals of the machine's answers
+abbrev pub refusalsIn : List Answer → List ℕ
+refusalsIn [] = []
+refusalsIn (a ∷ rest) = a .reply .refusal ∷ refusalsIn rest
+
+unfoldable pub Answered : Type 0
+Answered = (σ : Machine) (qs : List Call) → refusalsIn (answers σ qs) ≡ refusals (decisions (length (σ .memory)) (σ .state) (σ .table) qs)
 
 -- the token of number 0 and tag 0 with an offset, in encoding 0
 abbrev zeroAt : ℕ → ℕ
@@ -56,7 +65,11 @@ any = record { key0 = 0; key1 = 0; last = 0; next = 0 }
 
 -- the rows of 01's checklist: "The four packed tokens, the root entry and cases 3, 4, 6, 8 are proved as one table by one proposition."
 abbrev caseRow : ℕ → ℕ → Row
-caseRow case printed = record { given = getD (refusals (decisions any (replicate 128 0) firstCases)) case 99 ∷ []; printed = printed ∷ [] }
+caseRow case printed = record { given = getD (refusals (decisions bytes65536 any (replicate 128 0) firstCases)) case 99 ∷ []; printed = printed ∷ [] }
+
+-- the root entry is what the reset leaves at the table's start
+abbrev rootRow : Row
+rootRow = record { given = take 32 (decide bytes65536 any (replicate 128 0) (reset 0 0 1) [] .table); printed = printedRoot }
 
 abbrev pub examples : List Row
-examples = packedExamples ++ (caseRow 3 8 ∷ caseRow 4 8 ∷ caseRow 6 8 ∷ caseRow 8 1 ∷ [])
+examples = packedTokens ++ (rootRow ∷ caseRow 3 8 ∷ caseRow 4 8 ∷ caseRow 6 8 ∷ caseRow 8 1 ∷ [])

@@ -3,7 +3,7 @@
 use mathlib.Core.Path.{_≡_, refl, sym, ap}
 use mathlib.Core.Logic.{_⊎_, inl, inr}
 use mathlib.Core.List.{List, [], _∷_, _++_, List·Memᴰ, List·Memᴰ·cases-cons, List·Memᴰ·head, List·Memᴰ·not-nil, List·Memᴰ·tail}
-use Prim.Native.Nat.{ℕ}
+use Prim.Native.Nat.{ℕ, _<_}
 use native.Mathlib.Omega.{arith}
 use lib.ListN.{getD, length-set}
 use lib.Seq.{getD-set-other}
@@ -15,21 +15,26 @@ use Rattle.bits.specs.SipHash.{absorb, add64, compress, finish, padded, rotl, s
 use Rattle.layout.specs.Tag.{tagOf}
 use Rattle.layout.specs.declared.entry.Entry.{Entry}
 use Rattle.machine.specs.Demand3 as claim
-use Rattle.machine.specs.Demand3.{above, Accepted, Alike, Closed, Demand3, In, issuedIn, itself, LockedFor, NoReset, Secret}
+use Rattle.machine.specs.Demand3.{above, Accepted, Alike, Closed, Demand3, In, issuedIn, itself, LockedFor, Secret, Unreset}
 use Rattle.machine.specs.Issuing.{passOver, seek}
 use Rattle.machine.specs.Line.{walk}
-use Rattle.machine.specs.Writes.{Name}
+use Rattle.machine.specs.Lent.{AllBytes, LentBytes}
+use Rattle.machine.specs.Unchanged.{HeldDrop, LockAgain}
+use Rattle.machine.specs.Writes.{Name, tokenFor}
 use Rattle.machine.specs.Parts.{at, cleared, put, size}
 use Rattle.machine.specs.Requests.{Call, reading}
 use Rattle.machine.specs.Steps.{Answer, answer, decide, Machine, run, step}
-use Rattle.uses.specs.Uses.{before, changed, derives, First, first, listOf, locks7, Premises, read, reset1, revokes}
+use Rattle.uses.specs.Uses.{before, changed, child, derives, drops, First, first, listOf, locks7, Premises, read, reset1, revokes, rootName}
+use Rattle.machine.proofs.ByteLaws.{bytes-zeros}
+use Rattle.machine.proofs.Lent.{bytes-stay}
 use Rattle.machine.proofs.Theorem.{alike-refl, demand3}
+use Rattle.machine.proofs.Unchanged.{held-drop, lock-again}
 
 -- ---- a token derived before the lock is closed by the revoke
 
 -- demand 3, for a token whose premises are met
 closed-by : (σ : Machine) (f : First) (qs : List Call) (r : Call) (a : List Call) (q : Call) (b : List Call) (k : Name) → Premises σ f qs r a q b k
-    → (zs : List Call) → NoReset zs → (List·Memᴰ k (issuedIn (step (run σ a) q) (b ++ (r ∷ zs))) → ⊥) → Closed (run (step (run (run σ (listOf f)) qs) r) zs) k
+    → (zs : List Call) → Unreset (step (run (run σ (listOf f)) qs) r) zs → (List·Memᴰ k (issuedIn (step (run σ a) q) (b ++ (r ∷ zs))) → ⊥) → Closed (run (step (run (run σ (listOf f)) qs) r) zs) k
 unfolding Demand3
 closed-by σ f qs r a q b k p zs n =
     let τ : Machine = run σ (listOf f) in
@@ -37,18 +42,15 @@ closed-by σ f qs r a q b k p zs n =
     demand3 σ (f .key0) (f .key1) (f .firstNonce) [] (p .accepted) (f .follows) (p .oneReset) (f .entry) (f .task) (p .locked) τ τ same same qs (p .noReset) (p .noneCarries)
     .closed r (p .revoked) zs n a q b (p .whole) k (p .given) (p .under)
 
-abbrev child : Name
-child = record { number = 1; tag = 63154 }
-
--- the premises are met, with a read by 8, which is refused, before the revoke; and the revoke issues the root alone
+-- the premises are met, with a reset in the first list and a read by 8 before the revoke, which are both refused; and the revoke issues the root alone
 pub child-premises :
-    Premises before (first 1 (derives ∷ locks7 ∷ [])) (read 0 8 ∷ []) (revokes 0) (reset1 1 ∷ []) derives (locks7 ∷ read 0 8 ∷ []) child
-    × (List·Memᴰ child (issuedIn (step (run before (reset1 1 ∷ [])) derives) (locks7 ∷ read 0 8 ∷ revokes 0 ∷ [])) → ⊥)
+    Premises before (first 1 (derives ∷ reset1 0 ∷ locks7 ∷ [])) (read 0 8 ∷ []) (revokes 0) (reset1 1 ∷ []) derives (reset1 0 ∷ locks7 ∷ read 0 8 ∷ []) child
+    × (List·Memᴰ child (issuedIn (step (run before (reset1 1 ∷ [])) derives) (reset1 0 ∷ locks7 ∷ read 0 8 ∷ revokes 0 ∷ [])) → ⊥)
 unfolding before bytes number lowBytes lowNumber directNumber directOf entryNumber entryOf indirectNumber indirectOf illFormed within absorb add64 compress finish padded rotl siphash sipRound word tagOf passOver seek walk at cleared put size decide step answer
 child-premises = (
   record {
     accepted = refl;
-    oneReset = (elim [ ], (elim [ ], tt));
+    oneReset = (elim [ ], (λ i a. omega (arith, a), (elim [ ], tt)));
     locked = record { direct = refl; locked = refl; held = refl };
     noReset = (elim [ ], tt);
     noneCarries = (λ e. omega arith, tt);
@@ -64,9 +66,9 @@ child-premises = (
     once (inl e) = omega (arith, ap (λ (x : Name). x .number) e)
     once (inr m) = List·Memᴰ·not-nil m
 
-pub child-closed : Closed (run before (reset1 1 ∷ derives ∷ locks7 ∷ read 0 8 ∷ revokes 0 ∷ [])) child
+pub child-closed : Closed (run before (reset1 1 ∷ derives ∷ reset1 0 ∷ locks7 ∷ read 0 8 ∷ revokes 0 ∷ [])) child
 child-closed =
-    closed-by before (first 1 (derives ∷ locks7 ∷ [])) (read 0 8 ∷ []) (revokes 0) (reset1 1 ∷ []) derives (locks7 ∷ read 0 8 ∷ []) child (child-premises .0) [] tt (child-premises .1)
+    closed-by before (first 1 (derives ∷ reset1 0 ∷ locks7 ∷ [])) (read 0 8 ∷ []) (revokes 0) (reset1 1 ∷ []) derives (reset1 0 ∷ locks7 ∷ read 0 8 ∷ []) child (child-premises .0) [] tt (child-premises .1)
 
 -- ---- "none carrying t" is needed: a read by the holder tells two copies apart
 
@@ -98,9 +100,6 @@ holder-reads =
 
 -- ---- "unless the same number and tag were issued again" is needed: a token opens again
 
-abbrev rootName : Name
-rootName = record { number = 0; tag = 0 }
-
 -- The first nonce is such that two revokes in a row bring the first tag back: the first gives tag 23730, and the second, which passes over that
 -- one alone, gives tag 0. Between them the token is refused; after them a read through it is granted, to whatever task.
 pub opens-again :
@@ -128,3 +127,30 @@ opens-again = (
   List·Memᴰ·tail (List·Memᴰ·head refl),
   λ c. c reading 0 0 (0 ∷ []) refl refl refl,
 )
+
+-- ---- what changes nothing: a lock by the holder again, and a drop at 1 under a lock
+
+bytes-before : LentBytes before []
+unfolding before
+bytes-before =
+    let b : 9 < 256 = omega arith in
+    record { table = bytes-zeros 64; memory = (b, (b, (b, (b, (b, (b, (b, (b, tt)))))))); buffer = tt }
+
+-- what the reset, the derive and the lock left has bytes alone
+bytes-left : AllBytes (run before (reset1 1 ∷ derives ∷ locks7 ∷ []) .table)
+bytes-left =
+    let one = bytes-stay before (reset1 1) bytes-before in
+    let two = bytes-stay (step before (reset1 1)) derives (record { table = one .table; memory = one .memory; buffer = tt }) in
+    bytes-stay (run before (reset1 1 ∷ derives ∷ [])) locks7 (record { table = two .table; memory = two .memory; buffer = tt }) .table
+
+pub locked-again :
+    let τ : Machine = run before (reset1 1 ∷ derives ∷ locks7 ∷ []) in
+    step τ locks7 ≡ τ
+unfolding LockAgain before bytes number lowBytes lowNumber directNumber directOf entryNumber entryOf indirectNumber indirectOf illFormed within absorb add64 compress finish padded rotl siphash sipRound word tagOf passOver seek walk at cleared put size decide step answer
+locked-again = lock-again (run before (reset1 1 ∷ derives ∷ locks7 ∷ [])) 0 7 [] bytes-left refl refl
+
+pub dropped-under-lock :
+    let τ : Machine = run before (reset1 1 ∷ derives ∷ locks7 ∷ []) in
+    (step τ drops ≡ τ) × (answer τ drops .reply .dropped ≡ 0)
+unfolding HeldDrop before bytes number lowBytes lowNumber directNumber directOf entryNumber entryOf indirectNumber indirectOf illFormed within absorb add64 compress finish padded rotl siphash sipRound word tagOf passOver seek walk at cleared put size decide step answer
+dropped-under-lock = held-drop (run before (reset1 1 ∷ derives ∷ locks7 ∷ [])) (tokenFor 0 child) [] refl refl

@@ -4,10 +4,10 @@ use mathlib.Core.Path.{_≡_}
 use mathlib.Core.List.{List, [], _∷_, _++_, List·Memᴰ}
 use Prim.Native.Nat.{ℕ}
 use lib.ListN.{replicate, set}
-use Rattle.machine.specs.Demand3.{Accepted, FirstRevoke, LockedFor, NoneCarries, NoReset, resetCall, Under}
-use Rattle.machine.specs.Writes.{Name}
+use Rattle.machine.specs.Demand3.{Accepted, FirstRevoke, LockedFor, NoneCarries, NoReset, resetCall, Under, Unreset}
+use Rattle.machine.specs.Writes.{Name, tokenFor}
 use Rattle.machine.specs.Parts.{at}
-use Rattle.machine.specs.Requests.{access, Call, derive, lock, reading, Request, revoke}
+use Rattle.machine.specs.Requests.{access, Call, derive, lock, reading, release, Request, revoke}
 use Rattle.machine.specs.Steps.{decision, Machine, run, step}
 
 -- ---- the premises of demand 3, in one place
@@ -30,7 +30,7 @@ listOf f = resetOf f ∷ f .follows
 -- the further requests qs and the revoke r; the token k that the request q gave, with a before q and b after it
 pub record Premises (σ : Machine) (f : First) (qs : List Call) (r : Call) (a : List Call) (q : Call) (b : List Call) (k : Name) : Type 0 where
   pub accepted : Accepted σ (resetOf f)
-  pub oneReset : NoReset (f .follows)
+  pub oneReset : Unreset (step σ (resetOf f)) (f .follows)
   pub locked : LockedFor (run σ (listOf f)) (f .entry) (f .task)
   pub noReset : NoReset qs
   pub noneCarries : NoneCarries (f .task) qs
@@ -54,6 +54,17 @@ derives = plain (derive 0 2 3 4 0)
 
 abbrev pub locks7 : Call
 locks7 = plain (lock 0 7)
+
+-- what the derive gives, and the root as reset gives it
+abbrev pub child : Name
+child = record { number = 1; tag = 63154 }
+
+-- it is dropped
+abbrev pub drops : Call
+drops = plain (release (tokenFor 0 child))
+
+abbrev pub rootName : Name
+rootName = record { number = 0; tag = 0 }
 
 -- the token 0 is the root's as reset gives it: number 0, tag 0
 abbrev pub revokes : (token : ℕ) → Call
