@@ -14,6 +14,7 @@ fn main() {
     let archive = folder.join("libnorthbridge.a");
     assert!(archive.is_file(), "there is no {}", archive.display());
     println!("cargo::rerun-if-changed={}", archive.display());
+    println!("cargo::rustc-env=NORTHBRIDGE_ARCHIVE={}", archive.display());
     println!("cargo::rustc-link-search=native={}", folder.display());
     println!("cargo::rustc-link-lib=static=northbridge");
 }
