@@ -2,7 +2,7 @@
 -- Assumes nothing.
 use mathlib.Core.Path.{_≡_, refl, _∙_, ap, ap₂}
 use mathlib.Core.List.{List, [], _∷_, reverse, reverse-reverse}
-use Prim.Native.Nat.{ℕ, zero, suc, _^_, _<_}
+use Prim.Native.Nat.{ℕ, zero, suc, _%_, _^_, _<_}
 use native.Mathlib.Nat.{mod-eq-of-lt, zero-div, zero-mod}
 use lib.ListN.{length, getD, replicate, length-replicate, length-reverse}
 use borrow.Author.Needs.{needs}
@@ -32,10 +32,13 @@ pub bytes-number : (k : ℕ) (s : List ℕ) → Fit (replicate k 8) s → bytes 
 unfolding bytes number
 bytes-number k s h = unpack-pack (replicate k 8) s h
 
--- the same, the low byte first
+-- the same, the low byte first; of a number that is too large its low bytes come back
+pub low-mod : (k n : ℕ) → lowNumber k (lowBytes k n) ≡ n % 2 ^ bits (replicate k 8)
+unfolding bytes number lowBytes lowNumber
+low-mod k n = rw reverse-reverse (pack-unpack (replicate k 8) n)
+
 pub low-round : (k n : ℕ) → n < 2 ^ bits (replicate k 8) → lowNumber k (lowBytes k n) ≡ n
-unfolding lowBytes lowNumber
-low-round k n h = rw reverse-reverse (number-bytes k n h)
+low-round k n h = low-mod k n ∙ mod-eq-of-lt h
 
 reverse-fit : (s : List ℕ) → length s ≡ 8 → ((i : ℕ) → getD s i 0 < 256) → Fit (replicate 8 8) (reverse s)
 reverse-fit s l h = rw (by-elements s 8 l) (h 7, (h 6, (h 5, (h 4, (h 3, (h 2, (h 1, (h 0, tt))))))))

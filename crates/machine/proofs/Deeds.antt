@@ -1,7 +1,7 @@
 -- What each granted request but a reset does, as a Deed.
 -- Assumes nothing.
 use mathlib.Core.Path.{_≡_, refl, sym, ap, subst, _∙_}
-use mathlib.Core.Logic.{_≢_, inl, inr}
+use mathlib.Core.Logic.{_≢_, _⊎_, inl, inr}
 use mathlib.Core.List.{List, [], _∷_, List·Memᴰ·head, List·Memᴰ·tail}
 use mathlib.Core.Bool.{Bool, true, false, false≢true, not, _&&_, cond}
 use Prim.Native.Nat.{ℕ, zero, suc, _+_, _≤_, _<_, _^_}
@@ -9,7 +9,7 @@ use native.Mathlib.Omega.{arith}
 use native.Mathlib.Decide.{decLt, ℕ-discrete}
 use lib.Bits.{and-le-l}
 use lib.Dec.{leb, ltb, eqb}
-use lib.ListN.{length, length-replicate, replicate}
+use lib.ListN.{length, length-replicate}
 use borrow.Author.Tests.{eqb-false, eqb-true, leb-true, ltb-false, ltb-true, ne-eqb, not-true}
 use Rattle.layout.specs.Entry.{direct, directFields, directWidths, free}
 use Rattle.bits.specs.Fields.{Fit}
@@ -62,13 +62,13 @@ owner-open t (owner k) u v o h = false≢true (rw (h .locked, ne-eqb (at t k .ho
 owner-open t (dead k) u v o h = false≢true (v .1)
 owner-open t (ill k) u v o h = false≢true (v .0)
 
--- what one store touches, and a transfer
-once-stored : (a : ℕ) (bs : List ℕ) (x : ℕ) → Touches (store a bs) x → (a ≤ x) × (x < a + length bs)
-once-stored a bs x (inl (inl h)) = h
+-- what one store touches, whatever its bytes, and a transfer
+once-stored : {P : Type 0} → (P ⊎ ⊥) ⊎ ⊥ → P
+once-stored (inl (inl h)) = h
 
 touched : (w : Way) (a : ℕ) (b : List ℕ) (x : ℕ) → Touches (transfer w a b) x → (a ≤ x) × (x < a + length b)
 touched reading a b x (inr h) = h
-touched writing a b x h = once-stored a b x h
+touched writing a b x h = once-stored h
 touched fetching a b x (inr h) = h
 
 module _ (m : ℕ) (s : State) (t : List ℕ) (inv : Inv m s t) where
@@ -438,7 +438,7 @@ module _ (m : ℕ) (s : State) (t : List ℕ) (inv : Inv m s t) where
       (record { kind = sym d; base = refl; length = refl })
       (issued (omega arith) (omega arith) (List·Memᴰ·head refl) (λ h. absurd (omega arith)) (λ h x i. record { from = n; has = record { direct = d; inside = i }; to = refl }) (λ h. revokes refl))
       (λ i x sh nr tc ins.
-      let there = once-stored (at t n .base) (replicate (at t n .length) 0) x tc in
+      let there = once-stored tc in
       nr (revokes (inv .tiled n i x (record { direct = d; inside = (there .0, omega (arith, simp (length-replicate) at (there .1))) }) (record { direct = sh .direct; inside = ins }))))
 
   -- lock and unlock write the lock at the owner of a line that is open to the task

@@ -1,7 +1,7 @@
 -- What every granted request has, on whatever machine: its effect fits, its tokens' encoding is one of four, and what it issues anew lies in the table.
 -- Assumes nothing.
 use mathlib.Core.Path.{_≡_, refl}
-use mathlib.Core.Logic.{_≢_}
+use mathlib.Core.Logic.{_≢_, _⊎_, inl, inr}
 use mathlib.Core.Bool.{false}
 use mathlib.Core.List.{List, [], _∷_}
 use Prim.Native.Nat.{ℕ, _+_, _≤_}
@@ -24,7 +24,7 @@ use Rattle.machine.proofs.ByteLaws.{bytes-zeros}
 use Rattle.machine.proofs.Choices.{by-cond}
 use Rattle.machine.proofs.Decided.{Passed}
 use Rattle.machine.proofs.Fuel.{line-formed}
-use Rattle.machine.proofs.WriteLaws.{calm-within, release-calm, Within}
+use Rattle.machine.proofs.WriteLaws.{calm-giving, calm-within, giving, release-calm, Within}
 
 -- an effect stores bytes, if the buffer has bytes; and it reads as many as the buffer holds, inside memory
 abbrev pub StoreFits : (buffer : List ℕ) → List Store → Type 0
@@ -41,7 +41,16 @@ EffectFits m b f = StoreFits b (f .stores) × FillFits m b (f .fill)
 pub record Fitting (m : ℕ) (t : List ℕ) (q : Request) (b : List ℕ) (g : Grant) : Type 0 where
   pub effect : EffectFits m b (g .effect)
   pub encoding : g .encoding ≤ 3
-  pub within : (IsReset q → ⊥) → Within (size t) (g .writes)
+  pub within : IsReset q ⊎ Within (size t) (g .writes)
+  pub few : giving (g .writes) ≤ 2
+
+-- by either of two, and by the second, where the first is not
+pub either : {A B C : Type 0} → (A → C) → (B → C) → A ⊎ B → C
+either f g (inl a) = f a
+either f g (inr b) = g b
+
+pub unless : {A B : Type 0} → A ⊎ B → (A → ⊥) → B
+unless h n = either (λ a. absurd (n a)) (λ b. b) h
 
 pub access-inside : (m : ℕ) (s : State) (t : List ℕ) (w : Way) (k u : ℕ) (b : List ℕ) → Passed (checks m s t (access w k u) b) → namedEntry t k .base + named k .offset + length b ≤ m
 access-inside m s t w k u b h =
@@ -57,18 +66,19 @@ transfer-fits m writing a b h = ((λ i. i, tt), tt)
 transfer-fits m fetching a b h = (tt, (h, refl))
 
 pub granted-fits : (m : ℕ) (s : State) (t : List ℕ) (q : Request) (b : List ℕ) → Passed (checks m s t q b) → Fitting m t q b (grant m t q b)
-granted-fits m s t (reset k0 k1 ν) b h = record { effect = (tt, tt); encoding = omega arith; within = λ n. absurd (n resets) }
-granted-fits m s t (access w k u) b h = record { effect = transfer-fits m w _ b (access-inside m s t w k u b h); encoding = omega arith; within = λ n. tt }
+granted-fits m s t (reset k0 k1 ν) b h = record { effect = (tt, tt); encoding = omega arith; within = inl resets; few = omega arith }
+granted-fits m s t (access w k u) b h = record { effect = transfer-fits m w _ b (access-inside m s t w k u b h); encoding = omega arith; within = inr tt; few = omega arith }
 granted-fits m s t (create k u l x p c) b h = record {
   effect = (tt, tt);
   encoding = leb-true c 3 (search);
-  within = λ n. by-cond (λ w. Within (size t) (give (partOf (namedEntry t k) l x p) ∷ w ∷ [])) (eqb l (namedEntry t k .length)) (λ e. tt) (λ e. (ltb-true _ _ (search), tt));
+  within = inr (by-cond (λ w. Within (size t) (give (partOf (namedEntry t k) l x p) ∷ w ∷ [])) (eqb l (namedEntry t k .length)) (λ e. tt) (λ e. (ltb-true _ _ (search), tt)));
+  few = by-cond (λ w. giving (give (partOf (namedEntry t k) l x p) ∷ w ∷ []) ≤ 2) (eqb l (namedEntry t k .length)) (λ e. omega arith) (λ e. omega arith);
 }
-granted-fits m s t (merge j k u c) b h = record { effect = (tt, tt); encoding = leb-true c 3 (search); within = λ n. (ltb-true (numberOf j) (size t) (search), tt) }
-granted-fits m s t (derive k o l p c) b h = record { effect = (tt, tt); encoding = leb-true c 3 (search); within = λ n. tt }
-granted-fits m s t (executeOnly k c) b h = record { effect = (tt, tt); encoding = leb-true c 3 (search); within = λ n. tt }
-granted-fits m s t (clone k) b h = record { effect = (tt, tt); encoding = omega arith; within = λ n. tt }
-granted-fits m s t (release k) b h = record { effect = (tt, tt); encoding = omega arith; within = λ n. calm-within (size t) (grantRelease m t (numberOf k) .writes) (release-calm m t (numberOf k)) }
-granted-fits m s t (lock k u) b h = record { effect = (tt, tt); encoding = omega arith; within = λ n. tt }
-granted-fits m s t (unlock k u) b h = record { effect = (tt, tt); encoding = omega arith; within = λ n. tt }
-granted-fits m s t (revoke k c) b h = record { effect = ((λ i. search (bytes-zeros), tt), tt); encoding = leb-true c 3 (search); within = λ n. (ltb-true (numberOf k) (size t) (search), tt) }
+granted-fits m s t (merge j k u c) b h = record { effect = (tt, tt); encoding = leb-true c 3 (search); within = inr (ltb-true (numberOf j) (size t) (search), tt); few = omega arith }
+granted-fits m s t (derive k o l p c) b h = record { effect = (tt, tt); encoding = leb-true c 3 (search); within = inr tt; few = omega arith }
+granted-fits m s t (executeOnly k c) b h = record { effect = (tt, tt); encoding = leb-true c 3 (search); within = inr tt; few = omega arith }
+granted-fits m s t (clone k) b h = record { effect = (tt, tt); encoding = omega arith; within = inr tt; few = omega arith }
+granted-fits m s t (release k) b h = record { effect = (tt, tt); encoding = omega arith; within = inr (calm-within (size t) (grantRelease m t (numberOf k) .writes) (release-calm m t (numberOf k))); few = omega (arith, calm-giving (grantRelease m t (numberOf k) .writes) (release-calm m t (numberOf k))) }
+granted-fits m s t (lock k u) b h = record { effect = (tt, tt); encoding = omega arith; within = inr tt; few = omega arith }
+granted-fits m s t (unlock k u) b h = record { effect = (tt, tt); encoding = omega arith; within = inr tt; few = omega arith }
+granted-fits m s t (revoke k c) b h = record { effect = ((λ i. search (bytes-zeros), tt), tt); encoding = leb-true c 3 (search); within = inr (ltb-true (numberOf k) (size t) (search), tt); few = omega arith }

@@ -2,21 +2,21 @@
 -- Assumes nothing.
 use mathlib.Core.Path.{_≡_, refl}
 use mathlib.Core.List.{List, [], _∷_, _++_}
-use Prim.Native.Nat.{ℕ, _≤_, _<_}
+use Prim.Native.Nat.{ℕ, _^_, _≤_, _<_}
 use native.Mathlib.Omega.{arith}
 use lib.ListN.{length}
 use borrow.Author.Tests.{le-leb, leb-true, lt-ltb, ltb-true}
 use Rattle.machine.specs.Demand3.{Accepted, IsReset, resetCall, Unreset}
 use Rattle.machine.specs.Operations.{book, grant}
-use Rattle.machine.specs.Parts.{size, spent, State}
+use Rattle.machine.specs.Parts.{mostEntries, size, spent, State}
 use Rattle.machine.specs.Requests.{Call, Request, reset}
 use Rattle.machine.specs.Steps.{decision, Machine, run, step}
 use Rattle.machine.specs.Stops.{checks, settings, sizes}
 use Rattle.machine.specs.Writes.{opened}
 use Rattle.machine.proofs.Decided.{accepted, AllTrue, away, nonces-passed, Passed, sizes-passed, taken, true-join, true-split, Turned, turned}
-use Rattle.machine.proofs.Grants.{granted-fits}
+use Rattle.machine.proofs.Grants.{granted-fits, unless}
 use Rattle.machine.proofs.Lent.{as-long}
-use Rattle.machine.proofs.WriteLaws.{next-up, numbered-after}
+use Rattle.machine.proofs.WriteLaws.{key-kept, next-up, numbered-after}
 
 -- the settings hold of a state beside a table of so many entries
 record InOrder (z : ℕ) (s : State) : Type 0 where
@@ -32,8 +32,8 @@ granted-order m s t q b nr o p =
     let g = grant m t q b in
     let some : 0 < size t = omega (arith, o .last) in
     record {
-      last = numbered-after (g .encoding) (size t) some (opened s t) (g .writes) (record { sized = refl; last = o .last }) .last;
-      least = omega (arith, o .least, next-up (g .encoding) (size t) (opened s t) (g .writes) (granted-fits m s t q b p .within nr));
+      last = numbered-after (g .encoding) (size t) (size t) some (omega arith) (opened s t) (g .writes) (record { sized = refl; last = o .last }) .last;
+      least = omega (arith, o .least, next-up (g .encoding) (size t) (opened s t) (g .writes) (unless (granted-fits m s t q b p .within) nr));
       most = nonces-passed m s t q b p;
     }
 
@@ -78,3 +78,49 @@ settled-step σ q nr h =
 pub settled-run : (σ : Machine) (qs : List Call) → Unreset σ qs → Settled σ → Settled (run σ qs)
 settled-run σ [] nr h = h
 settled-run σ (q ∷ qs) nr h = settled-run (step σ q) qs (nr .1) (settled-step σ q (nr .0) h)
+
+-- ---- the state's words
+
+-- each has 64 bits
+pub record StateFits (s : State) : Type 0 where
+  pub key0 : s .key0 < 2 ^ 64
+  pub key1 : s .key1 < 2 ^ 64
+  pub last : s .last < 2 ^ 64
+  pub next : s .next < 2 ^ 64
+
+-- and so have the keys of the request, if it is a reset
+pub data KeysFit : Request → Type 0 where
+  keys : (k0 k1 ν : ℕ) → k0 < 2 ^ 64 → k1 < 2 ^ 64 → KeysFit (reset k0 k1 ν)
+  none : {q : Request} → (IsReset q → ⊥) → KeysFit q
+
+pub words-stay : (σ : Machine) (q : Call) → KeysFit (q .request) → StateFits (σ .state) → StateFits (step σ q .state)
+unfolding step
+words-stay σ q k h = go (turned σ q)
+  where
+    s : State
+    s = σ .state
+
+    t : List ℕ
+    t = σ .table
+
+    m : ℕ
+    m = length (σ .memory)
+
+    granted-words : (r : Request) → KeysFit r → Passed (checks m s t r (q .buffer)) → StateFits (book s t (grant m t r (q .buffer)) .state)
+    granted-words _ (keys k0 k1 ν a b) p = record { key0 = a; key1 = b; last = omega arith; next = omega (arith, nonces-passed m s t (reset k0 k1 ν) (q .buffer) p) }
+    granted-words r (none n) p =
+        let g = grant m t r (q .buffer) in
+        let z = sizes-passed m s t r (q .buffer) p in
+        let two : 2 ≤ size t = leb-true 2 (size t) (z .1 .1 .1 .0) in
+        let most : size t ≤ 1024 = leb-true (size t) mostEntries (z .1 .1 .1 .1 .0) in
+        let same = key-kept (g .encoding) (size t) (opened s t) (g .writes) (unless (granted-fits m s t r (q .buffer) p .within) n) in
+        record {
+          key0 = rw (same .0) (h .key0);
+          key1 = rw (same .1) (h .key1);
+          last = numbered-after (g .encoding) (size t) (2 ^ 64) (omega arith) (omega arith) (opened s t) (g .writes) (record { sized = refl; last = h .last }) .last;
+          next = omega (arith, nonces-passed m s t r (q .buffer) p);
+        }
+
+    go : Turned σ q → StateFits (decision σ q .state)
+    go (taken a p e) = rw e (granted-words (q .request) k p)
+    go (away r e na) = rw e h

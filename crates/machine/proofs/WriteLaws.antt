@@ -3,22 +3,24 @@
 use mathlib.Core.Path.{_≡_, refl, sym, ap, ap₂, _∙_}
 use mathlib.Core.Bool.{_&&_}
 use mathlib.Core.List.{List, [], _∷_, _++_}
-use Prim.Native.Nat.{ℕ, zero, suc, _≤_, _<_}
+use Prim.Native.Nat.{ℕ, zero, suc, _+_, _^_, _≤_, _<_}
 use native.Mathlib.Nat.{mod-lt}
 use native.Mathlib.Omega.{arith}
 use native.Mathlib.Decide.{ℕ-discrete}
 use lib.Dec.{eqb, leb}
+use lib.ListN.{length, length-append}
 use lib.Pow.{pow-pos}
 use Rattle.layout.specs.Tag.{tagOf}
 use Rattle.layout.specs.declared.entry.Entry.{Entry}
+use Rattle.tokens.specs.Token.{NamedFits}
 use Rattle.tokens.specs.declared.token.Named.{Named}
-use Rattle.tokens.proofs.TokenLaws.{read-packed, small-fits}
-use Rattle.machine.specs.Given.{nameIn, namesIn}
+use Rattle.tokens.proofs.TokenLaws.{read-packed, small-fits, token-lt}
+use Rattle.machine.specs.Given.{AllWords, nameIn, namesIn}
 use Rattle.machine.specs.Issuing.{issue, newNumber}
 use Rattle.machine.specs.Line.{isLocked, lineOf, linked, parentNumber}
 use Rattle.machine.specs.Operations.{climb, grantRelease}
 use Rattle.machine.specs.Parts.{at, cleared, put, root, size, State}
-use Rattle.machine.specs.Writes.{alter, begin, Book, give, Name, nameOf, otherNonce, reissue, renew, tokenFor, vacate, vacated, Write, write, written}
+use Rattle.machine.specs.Writes.{alter, begin, Book, entered, give, Name, nameOf, otherNonce, reissue, renew, tokenFor, vacate, vacated, Write, write, written}
 use Rattle.machine.proofs.Choices.{by-cond}
 use Rattle.machine.proofs.Fuel.{number-first, pass-over}
 use Rattle.machine.proofs.TableLaws.{size-cleared, size-put}
@@ -49,21 +51,21 @@ number-inside s t h = go (ℕ-discrete (newNumber s t) 0)
     go (yes z) = omega arith
     go (no z) = number-first s t z .inside
 
--- a table of z entries, and a last number inside it
-pub record Numbered (z : ℕ) (b : Book) : Type 0 where
+-- a table of z entries, and a last number below a bound that all of them are below
+pub record Numbered (z top : ℕ) (b : Book) : Type 0 where
   pub sized : size (b .table) ≡ z
-  pub last : b .state .last < z
+  pub last : b .state .last < top
 
-module _ (c z : ℕ) (some : 0 < z) where
-  numbered-written : (b : Book) (w : Write) → Numbered z b → Numbered z (write c b w)
-  numbered-written b (begin m k0 k1 ν) g = record { sized = size-put (cleared (b .table)) 0 (root m) ∙ size-cleared (b .table) ∙ g .sized; last = some }
-  numbered-written b (give e) g = record { sized = size-put _ _ _ ∙ g .sized; last = omega (arith, number-inside (b .state) (b .table) (omega arith)) }
+module _ (c z top : ℕ) (some : 0 < z) (all : z ≤ top) where
+  numbered-written : (b : Book) (w : Write) → Numbered z top b → Numbered z top (write c b w)
+  numbered-written b (begin m k0 k1 ν) g = record { sized = size-put (cleared (b .table)) 0 (root m) ∙ size-cleared (b .table) ∙ g .sized; last = omega arith }
+  numbered-written b (give e) g = record { sized = size-put _ _ _ ∙ g .sized; last = omega (arith, g .sized, number-inside (b .state) (b .table) (omega (arith, g .sized))) }
   numbered-written b (reissue k e) g = record { sized = size-put _ _ _ ∙ g .sized; last = g .last }
   numbered-written b (renew k e) g = record { sized = size-put _ _ _ ∙ g .sized; last = g .last }
   numbered-written b (vacate k) g = record { sized = size-put _ _ _ ∙ g .sized; last = g .last }
   numbered-written b (alter k e) g = record { sized = size-put _ _ _ ∙ g .sized; last = g .last }
 
-  pub numbered-after : (b : Book) (ws : List Write) → Numbered z b → Numbered z (written c b ws)
+  pub numbered-after : (b : Book) (ws : List Write) → Numbered z top b → Numbered z top (written c b ws)
   numbered-after b [] g = g
   numbered-after b (w ∷ ws) g = numbered-after (write c b w) ws (numbered-written b w g)
 
@@ -92,41 +94,82 @@ next-up c z b (renew n e ∷ ws) h = omega (arith, other-least (b .state) (b .ta
 next-up c z b (vacate n ∷ ws) h = next-up c z (write c b (vacate n)) ws h
 next-up c z b (alter n e ∷ ws) h = next-up c z (write c b (alter n e)) ws h
 
--- the token of what is issued under number n names it
-names : (s : State) (c n : ℕ) (e : Entry) → c ≤ 3 → n < 1024 → nameIn (tokenFor c (nameOf n (issue s n e))) ≡ nameOf n (issue s n e)
+-- the key stays
+abbrev pub SameKey : State → State → Type 0
+SameKey s s′ = (s′ .key0 ≡ s .key0) × (s′ .key1 ≡ s .key1)
+
+pub key-kept : (c z : ℕ) (b : Book) (ws : List Write) → Within z ws → SameKey (b .state) (written c b ws .state)
+key-kept c z b [] h = (refl, refl)
+key-kept c z b (begin m k0 k1 ν ∷ ws) h = absurd h
+key-kept c z b (give e ∷ ws) h = key-kept c z (write c b (give e)) ws h
+key-kept c z b (reissue n e ∷ ws) h = key-kept c z (write c b (reissue n e)) ws (h .1)
+key-kept c z b (renew n e ∷ ws) h = key-kept c z (write c b (renew n e)) ws (h .1)
+key-kept c z b (vacate n ∷ ws) h = key-kept c z (write c b (vacate n)) ws h
+key-kept c z b (alter n e ∷ ws) h = key-kept c z (write c b (alter n e)) ws h
+
+-- how many of the writes give a token, and so many does the answer gain
+abbrev pub giving : List Write → ℕ
+giving [] = 0
+giving (begin m k0 k1 ν ∷ ws) = giving ws
+giving (give e ∷ ws) = suc (giving ws)
+giving (reissue n e ∷ ws) = suc (giving ws)
+giving (renew n e ∷ ws) = suc (giving ws)
+giving (vacate n ∷ ws) = giving ws
+giving (alter n e ∷ ws) = giving ws
+
+one-longer : (xs : List ℕ) (y n k : ℕ) → n ≡ length (xs ++ (y ∷ [])) + k → n ≡ length xs + suc k
+one-longer xs y n k h = omega (arith, rw length-append at h)
+
+pub given-tokens : (c : ℕ) (b : Book) (ws : List Write) → length (written c b ws .tokens) ≡ length (b .tokens) + giving ws
+given-tokens c b [] = omega arith
+given-tokens c b (begin m k0 k1 ν ∷ ws) = given-tokens c (write c b (begin m k0 k1 ν)) ws
+given-tokens c b (give e ∷ ws) = one-longer (b .tokens) _ _ _ (given-tokens c (write c b (give e)) ws)
+given-tokens c b (reissue n e ∷ ws) = one-longer (b .tokens) _ _ _ (given-tokens c (write c b (reissue n e)) ws)
+given-tokens c b (renew n e ∷ ws) = one-longer (b .tokens) _ _ _ (given-tokens c (write c b (renew n e)) ws)
+given-tokens c b (vacate n ∷ ws) = given-tokens c (write c b (vacate n)) ws
+given-tokens c b (alter n e ∷ ws) = given-tokens c (write c b (alter n e)) ws
+
+-- the token of what is issued under number n is a word, and names it
+issued-fits : (s : State) (c n : ℕ) (e : Entry) → c ≤ 3 → n < 1024 → NamedFits c (record { tag = issue s n e .tag; number = n; offset = 0 })
 unfolding tagOf
-names s c n e a b =
-    let fit = small-fits c n (issue s n e .tag) a b (mod-lt _ (pow-pos 16)) in
-    ap (λ (x : Named). record { number = x .number; tag = x .tag }) (read-packed c _ (omega arith) fit)
+issued-fits s c n e a b = small-fits c n (issue s n e .tag) a b (mod-lt _ (pow-pos 16))
+
+names : (s : State) (c n : ℕ) (e : Entry) → c ≤ 3 → n < 1024 → nameIn (tokenFor c (nameOf n (issue s n e))) ≡ nameOf n (issue s n e)
+names s c n e a b = ap (λ (x : Named). record { number = x .number; tag = x .tag }) (read-packed c _ (omega arith) (issued-fits s c n e a b))
+
+words-append : (xs : List ℕ) (y : ℕ) → AllWords xs → y < 2 ^ 64 → AllWords (xs ++ (y ∷ []))
+words-append [] y h k = (k, tt)
+words-append (x ∷ xs) y h k = (h .0, words-append xs y (h .1) k)
 
 names-append : (xs : List ℕ) (y : ℕ) → namesIn (xs ++ (y ∷ [])) ≡ namesIn xs ++ (nameIn y ∷ [])
 names-append [] y = refl
 names-append (x ∷ xs) y = ap (λ (ks : List Name). nameIn x ∷ ks) (names-append xs y)
 
--- the tokens so far name what was issued so far, in a table of z entries
+-- the tokens so far are words, and name what was issued so far, in a table of z entries
 pub record Told (z : ℕ) (b : Book) : Type 0 where
   pub sized : size (b .table) ≡ z
   pub named : b .issued ≡ namesIn (b .tokens)
+  pub words : AllWords (b .tokens)
 
 module _ (c z : ℕ) (encoded : c ≤ 3) (some : 0 < z) (most : z ≤ 1024) where
-  one-more : (b : Book) (n ν : ℕ) (e : ℕ → Entry) → n < z → Told z b
-      → b .issued ++ (nameOf n (issue (b .state) n (e ν)) ∷ []) ≡ namesIn (b .tokens ++ (tokenFor c (nameOf n (issue (b .state) n (e ν))) ∷ []))
-  one-more b n ν e h g =
-      ap₂ (λ (ks : List Name) (k : Name). ks ++ (k ∷ [])) (g .named) (sym (names (b .state) c n (e ν) encoded (omega arith)))
-      ∙ sym (names-append (b .tokens) (tokenFor c (nameOf n (issue (b .state) n (e ν)))))
+  one-more : (b : Book) (last n ν : ℕ) (e : ℕ → Entry) → n < z → Told z b → Told z (entered c b last n ν e)
+  one-more b last n ν e h g =
+      let k : ℕ = tokenFor c (nameOf n (issue (b .state) n (e ν))) in
+      record {
+        sized = size-put _ _ _ ∙ g .sized;
+        named = ap₂ (λ (ks : List Name) (k : Name). ks ++ (k ∷ [])) (g .named) (sym (names (b .state) c n (e ν) encoded (omega arith))) ∙ sym (names-append (b .tokens) k);
+        words = words-append (b .tokens) k (g .words) (token-lt c _ (omega arith) (issued-fits (b .state) c n (e ν) encoded (omega arith)));
+      }
 
   pub named-after : (b : Book) (ws : List Write) → Within z ws → Told z b → Told z (written c b ws)
   named-after b [] h g = g
   named-after b (begin m k0 k1 ν ∷ ws) h g = absurd h
   named-after b (give e ∷ ws) h g =
-      named-after (write c b (give e)) ws h
-      (record { sized = size-put _ _ _ ∙ g .sized; named = one-more b (newNumber (b .state) (b .table)) (b .state .next) e (omega (arith, number-inside (b .state) (b .table) (omega (arith, g .sized)), g .sized)) g })
-  named-after b (reissue n e ∷ ws) h g =
-      named-after (write c b (reissue n e)) ws (h .1) (record { sized = size-put _ _ _ ∙ g .sized; named = one-more b n (b .state .next) e (h .0) g })
-  named-after b (renew n e ∷ ws) h g =
-      named-after (write c b (renew n e)) ws (h .1) (record { sized = size-put _ _ _ ∙ g .sized; named = one-more b n (otherNonce (b .state) (b .table) n e) e (h .0) g })
-  named-after b (vacate n ∷ ws) h g = named-after (write c b (vacate n)) ws h (record { sized = size-put _ _ _ ∙ g .sized; named = g .named })
-  named-after b (alter n e ∷ ws) h g = named-after (write c b (alter n e)) ws h (record { sized = size-put _ _ _ ∙ g .sized; named = g .named })
+      named-after (write c b (give e)) ws h (one-more b _ (newNumber (b .state) (b .table)) (b .state .next) e (omega (arith, number-inside (b .state) (b .table) (omega (arith, g .sized)), g .sized)) g)
+  named-after b (reissue n e ∷ ws) h g = named-after (write c b (reissue n e)) ws (h .1) (one-more b _ n (b .state .next) e (h .0) g)
+  named-after b (renew n e ∷ ws) h g = named-after (write c b (renew n e)) ws (h .1) (one-more b _ n (otherNonce (b .state) (b .table) n e) e (h .0) g)
+  named-after b (vacate n ∷ ws) h g = named-after (write c b (vacate n)) ws h (record { sized = size-put _ _ _ ∙ g .sized; named = g .named; words = g .words })
+  named-after b (alter n e ∷ ws) h g = named-after (write c b (alter n e)) ws h (record { sized = size-put _ _ _ ∙ g .sized; named = g .named; words = g .words })
 
 -- ---- writes that issue nothing
 
@@ -138,6 +181,15 @@ Calm (reissue n e ∷ ws) = ⊥
 Calm (renew n e ∷ ws) = ⊥
 Calm (vacate n ∷ ws) = Calm ws
 Calm (alter n e ∷ ws) = Calm ws
+
+pub calm-giving : (ws : List Write) → Calm ws → giving ws ≡ 0
+calm-giving [] h = refl
+calm-giving (begin m k0 k1 ν ∷ ws) h = absurd h
+calm-giving (give e ∷ ws) h = absurd h
+calm-giving (reissue n e ∷ ws) h = absurd h
+calm-giving (renew n e ∷ ws) h = absurd h
+calm-giving (vacate n ∷ ws) h = calm-giving ws h
+calm-giving (alter n e ∷ ws) h = calm-giving ws h
 
 pub calm-within : (z : ℕ) (ws : List Write) → Calm ws → Within z ws
 calm-within z [] h = tt

@@ -3,7 +3,8 @@
 -- Assumes nothing.
 use mathlib.Core.Path.{_≡_}
 use mathlib.Core.List.{List, [], _∷_}
-use Prim.Native.Nat.{ℕ}
+use Prim.Native.Nat.{ℕ, _^_, _≤_, _<_}
+use lib.ListN.{length}
 use Rattle.tokens.specs.Token.{named}
 use Rattle.machine.specs.Demand3.{Accepted, IsReset}
 use Rattle.machine.specs.Operations.{Decision, numberOf}
@@ -19,10 +20,17 @@ abbrev pub namesIn : List ℕ → List Name
 namesIn [] = []
 namesIn (k ∷ ks) = nameIn k ∷ namesIn ks
 
--- What a granted request issued is what the tokens of its answer name. Reset's root is issued, and its answer carries no token.
+abbrev pub AllWords : List ℕ → Type 0
+AllWords [] = Unit {0}
+AllWords (k ∷ ks) = (k < 2 ^ 64) × AllWords ks
+
+-- What a granted request issued is what the tokens of its answer name. Reset's root is issued, and its answer carries no token. An answer carries two
+-- tokens at most, each a word of 64 bits.
 pub record Gives (q : Request) (d : Decision) : Type 0 where
   pub carried : (IsReset q → ⊥) → d .issued ≡ namesIn (d .reply .tokens)
   pub root : IsReset q → (d .issued ≡ record { number = 0; tag = 0 } ∷ []) × (d .reply .tokens ≡ [])
+  pub few : length (d .reply .tokens) ≤ 2
+  pub words : AllWords (d .reply .tokens)
 
 -- whatever is granted by whatever machine; a refused request gives none (`Refusals.Untouched`)
 unfoldable pub Given : Type 0

@@ -1,6 +1,6 @@
 -- From what the code hands back to what a call leaves.
 -- Assumes nothing.
-use mathlib.Core.Path.{_≡_, _∙_, ap, ap₂}
+use mathlib.Core.Path.{_≡_, _∙_, ap, ap₂, sym}
 use mathlib.Core.Bool.{Bool, true, false, _&&_}
 use mathlib.Core.List.{List}
 use Prim.Native.Nat.{ℕ}
@@ -16,7 +16,7 @@ use Rattle.rulings.specs.declared.reply.Outcome.{Outcome}
 use Rattle.operations.specs.Turns.{after, answered, before, callAs}
 use Rattle.table.specs.States.{stateAs}
 use Rattle.table.specs.declared.state.StateWords.{StateWords}
-use Rattle.northbridge.specs.Exported.{answerBytes, answerSize, Asked, asked, carried, exported, known, requestSize, served, sized, stateBytes, stateOf, stateSize}
+use Rattle.northbridge.specs.Exported.{answerBytes, answerSize, Asked, asked, carried, exported, known, requestOf, requestSize, served, sized, stateBytes, stateOf, stateSize}
 use Rattle.northbridge.specs.Meanings.{left}
 
 -- a step of the code's state, stored, is what a known request leaves
@@ -50,6 +50,13 @@ module _ (q s a : List ℕ) where
   unfolding asked
   known-sizes r =
       by-cond (λ (k : Asked). known r ≡ k → (length s ≡ stateSize) × (length a ≡ answerSize)) (sized q s a) (λ e h. sizes e .1)
+      (λ e h. absurd (let z : _≡_ {A = ℕ} 0 1 = cc in omega arith))
+
+  -- and only where the request has its own; it is the one that its words pick
+  pub request-sized : (r : Request) → asked q s a ≡ known r → (length q ≡ requestSize) × (known r ≡ requestOf q)
+  unfolding asked
+  request-sized r =
+      by-cond (λ (k : Asked). k ≡ known r → (length q ≡ requestSize) × (known r ≡ requestOf q)) (sized q s a) (λ e h. (sizes e .0, sym h))
       (λ e h. absurd (let z : _≡_ {A = ℕ} 0 1 = cc in omega arith))
 
   -- ---- a call

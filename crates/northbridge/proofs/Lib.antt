@@ -1,3 +1,6 @@
 pub mod CallLaws
-pub mod Kept
+pub mod Demands
+pub mod Example
+pub mod Listed
+pub mod Secrecy
 pub mod WordLaws

@@ -3,15 +3,17 @@
 use mathlib.Core.Path.{_≡_, refl, sym, _∙_, ap, ap₂}
 use mathlib.Core.Logic.{_≢_}
 use mathlib.Core.List.{List, [], _∷_, _++_, append-assoc, append-nil}
-use Prim.Native.Nat.{ℕ, zero, suc, _+_, _*_, _<_, _≤_}
+use Prim.Native.Nat.{ℕ, zero, suc, _+_, _*_, _%_, _^_, _<_, _≤_}
+use native.Mathlib.Nat.{mod-lt, zero-mod}
 use native.Mathlib.Numerals.{add-one}
 use native.Mathlib.Omega.{arith}
 use lib.ListN.{drop, getD, length, length-append, length-drop, List·getD-eq-default, take, take-append-drop}
-use lib.Seq.{drop-drop, getD-drop, length-take-le, take-all, take-at, take-suc}
+use lib.Seq.{drop-at, drop-drop, drop-nil, getD-drop, length-take-le, take-all, take-at, take-suc}
+use lib.Pow.{pow-pos}
 use borrow.Rule.Slice.PartMut.{putMid}
-use Rattle.bits.specs.Bytes.{lowBytes}
+use Rattle.bits.specs.Bytes.{lowBytes, lowNumber, number}
 use Rattle.bits.specs.SipHash.{word}
-use Rattle.bits.proofs.ByteLaws.{length-low-bytes, low-back, tabulate}
+use Rattle.bits.proofs.ByteLaws.{length-low-bytes, low-back, low-mod, tabulate}
 use Rattle.northbridge.specs.Exported.{picked, requests, unknown, wordBytes}
 
 word-bytes-append : (v w : List ℕ) → wordBytes (v ++ w) ≡ wordBytes v ++ wordBytes w
@@ -49,6 +51,31 @@ words-kept (suc n) f s same bytes long =
     (ap (lowBytes 8) (same 0) ∙ low-back (take 8 s) (length-take-le 8 s (omega arith)) (λ i. taken 8 s i (bytes i)))
     (words-kept n (λ i. f (suc i)) (drop 8 s) (λ i. let e : 8 * suc i ≡ 8 + 8 * i = omega arith in same (suc i) ∙ rw (e, drop-drop)) (λ i. rw getD-drop (bytes (8 + i))) (rw length-drop (omega arith)))
     ∙ take-append-drop 8 s
+
+-- a stored word is read again, less what 64 bits do not hold
+pub word-of : (ws : List ℕ) (i : ℕ) → word (wordBytes ws) i ≡ getD ws i 0 % 2 ^ 64
+unfolding word wordBytes lowNumber number
+word-of [] i = rw (drop-nil (8 * i), zero-mod)
+word-of (w ∷ ws) zero = ap (lowNumber 8) (take-at (lowBytes 8 w) (wordBytes ws) 8 (length-low-bytes 8 w)) ∙ low-mod 8 w
+word-of (w ∷ ws) (suc i) =
+    let all : List ℕ = lowBytes 8 w ++ wordBytes ws in
+    let e : 8 * suc i ≡ 8 + 8 * i = omega arith in
+    let skip : drop (8 * suc i) all ≡ drop (8 * i) (wordBytes ws) = ap (λ (n : ℕ). drop n all) e ∙ sym (drop-drop (8 * i) 8 all) ∙ ap (drop (8 * i)) (drop-at (lowBytes 8 w) (wordBytes ws) 8 (length-low-bytes 8 w)) in
+    ap (λ (x : List ℕ). lowNumber 8 (take 8 x)) skip ∙ word-of ws i
+
+pub length-word-bytes : (ws : List ℕ) → length (wordBytes ws) ≡ 8 * length ws
+unfolding wordBytes
+length-word-bytes [] = refl
+length-word-bytes (w ∷ ws) = rw (length-append, length-low-bytes, length-word-bytes ws) (omega arith)
+
+-- a word that is read has 64 bits
+pub word-lt : (s : List ℕ) (i : ℕ) → ((j : ℕ) → getD s j 0 < 256) → 8 * i + 8 ≤ length s → word s i < 2 ^ 64
+unfolding word
+word-lt s i h fits =
+    let x : List ℕ = take 8 (drop (8 * i) s) in
+    let same : lowBytes 8 (lowNumber 8 x) ≡ x = low-back x (length-take-le 8 (drop (8 * i) s) (rw length-drop (omega arith))) (λ j. taken 8 (drop (8 * i) s) j (rw getD-drop (h (8 * i + j)))) in
+    let low : lowNumber 8 x ≡ lowNumber 8 x % 2 ^ 64 = sym (ap (lowNumber 8) same) ∙ low-mod 8 (lowNumber 8 x) in
+    rw low (mod-lt _ (pow-pos 64))
 
 -- a number that is none of the first n stands at n or above
 abbrev pub None : ℕ → ℕ → Type 0

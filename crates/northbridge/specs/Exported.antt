@@ -1,6 +1,5 @@
 -- The interface for C and Rust: what a call of `northbridge_serve` returns, and every byte that it leaves, by the machine's `step` and `answer`.
 -- Assumes nothing.
-use mathlib.Core.Path.{_≡_}
 use mathlib.Core.Bool.{Bool, _&&_, cond}
 use mathlib.Core.List.{List, [], _∷_, _++_}
 use Prim.Native.Nat.{ℕ}
@@ -116,10 +115,3 @@ carried unknown s t m b a =
 
 unfoldable pub exported : (request state table memory buffer answer : List ℕ) → Exported
 exported q s t m b a = carried (asked q s a) s t m b a
-
--- what a refused call keeps: all but the answer
-pub record Kept (s t m b : List ℕ) (x : Exported) : Type 0 where
-  pub state : x .state ≡ s
-  pub table : x .table ≡ t
-  pub memory : x .memory ≡ m
-  pub buffer : x .buffer ≡ b

@@ -1,2 +1,4 @@
+pub mod Demands
+pub mod Example
 pub mod Exported
 pub mod Meanings

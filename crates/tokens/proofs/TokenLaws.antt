@@ -63,6 +63,12 @@ packed-read t h =
     let top : t / 2 ^ (16 + (numberWidth e + offsetWidth e)) % 4 ≡ e = rw widths-sum (mod-eq-of-lt l) in
     ap (λ x. tokenIn (numberWidth e) (offsetWidth e) x (named t)) (sym top) ∙ token-named (numberWidth e) (offsetWidth e) t (rw widths-sum h)
 
+-- a token that was packed is a word
+pub token-lt : (e : ℕ) (n : Named) → e < 4 → NamedFits e n → token e n < 2 ^ 64
+token-lt e n l h =
+    let z : 2 + (16 + (numberWidth e + (offsetWidth e + 0))) ≡ 64 = omega (arith, widths-sum e l) in
+    rw z at (pack-lt (tokenWidths (numberWidth e) (offsetWidth e)) (tokenFields e n) h)
+
 -- what is read of any word fits its fields
 pub named-fits : (e t : ℕ) → e < 4 → NamedFits e (namedAs e t)
 named-fits e t h = (h, (mod-lt _ (pow-pos 16), (mod-lt _ (pow-pos (numberWidth e)), (mod-lt _ (pow-pos (offsetWidth e)), tt))))
