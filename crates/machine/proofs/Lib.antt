@@ -12,6 +12,7 @@ pub mod Given
 pub mod Grants
 pub mod Lent
 pub mod Refused
+pub mod Rows
 pub mod Runs
 pub mod Settled
 pub mod SliceLaws

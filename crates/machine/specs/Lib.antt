@@ -8,6 +8,7 @@ pub mod Operations
 pub mod Parts
 pub mod Refusals
 pub mod Requests
+pub mod Rows
 pub mod Searches
 pub mod Session
 pub mod Steps
