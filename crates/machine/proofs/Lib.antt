@@ -11,6 +11,7 @@ pub mod Fuel
 pub mod Given
 pub mod Grants
 pub mod Lent
+pub mod Recorded
 pub mod Refused
 pub mod Rows
 pub mod Runs

@@ -6,6 +6,8 @@ pub mod Lent
 pub mod Line
 pub mod Operations
 pub mod Parts
+pub mod Recorded
+pub mod Recordings
 pub mod Refusals
 pub mod Requests
 pub mod Rows
