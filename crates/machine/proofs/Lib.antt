@@ -3,6 +3,7 @@ pub mod ByteLaws
 pub mod Choices
 pub mod Decided
 pub mod Deeds
+pub mod Depth
 pub mod Effects
 pub mod Examples
 pub mod Fates

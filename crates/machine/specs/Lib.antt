@@ -1,4 +1,5 @@
 pub mod Demand3
+pub mod Depth
 pub mod FromReset
 pub mod Given
 pub mod Issuing
