@@ -1,6 +1,7 @@
 -- Sessions as the second implementation (bench/model, written from the papers alone) served them: its answers, its state and the bytes of its table. No number
--- here was had from the definitions. A granted row: tokens, drop's number, last number, next nonce, effect; a refused one: refusal, which entry was bad,
--- last number, next nonce. The model hands back buffer and memory; an effect is told by which of their bytes changed.
+-- here was had from the definitions; bench/model/tests/recordings.rs holds the model to each row. A granted row: tokens, drop's number, last number, next
+-- nonce, effect; a refused one: refusal, which entry was bad, last number, next nonce. The model hands back buffer and memory; an effect is told by which of
+-- their bytes changed.
 -- Assumes nothing.
 use mathlib.Core.List.{List, [], _∷_}
 use Prim.Native.Nat.{ℕ}
