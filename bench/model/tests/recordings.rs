@@ -166,7 +166,7 @@ fn sessions_are_served_as_recorded() {
     let sessions = definitions["sessions"].list();
     let rows: usize =
         sessions.iter().map(|name| replay(&definitions[name.word()], &definitions)).sum();
-    assert_eq!((sessions.len(), rows), (7, 181));
+    assert_eq!((sessions.len(), rows), (7, 180));
 }
 
 #[test]
@@ -203,5 +203,5 @@ fn bytes_move_as_recorded() {
         }
         assert_eq!((back, memory), (bytes(buffers), bytes(left)), "{row:?}");
     }
-    assert_eq!(rows.len(), 3);
+    assert_eq!(rows.len(), 2);
 }

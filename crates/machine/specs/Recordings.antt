@@ -11,12 +11,12 @@ use Rattle.machine.specs.Recorded.{grants, known, limit, moves, over, re
 use Rattle.machine.specs.Requests.{access, clone, create, derive, executeOnly, fetching, lock, merge, reading, release, reset, revoke, unlock, writing}
 use Rattle.machine.specs.Session.{plain}
 
--- A table that no reset leaves. Entry n has tag a0 + n, hex. 0, 3, 4, 13 and 14 are direct, 3 not Lockable; 1 is locked for 7, and 2 is under it; 5 and 11 are
+-- A table that no reset leaves. Entry n has tag a0 + n, hex. 0, 3, 4, 13 and 14 are direct, 3 not Lockable; 1 is locked for 7 and not Lockable, and 2 is under it; 5 and 11 are
 -- ill-formed, 6 is under 5; 7 has a parent token with another tag, 8 is under 7; 9 is under 3, with count 65,534; 10 has no older parent; 12 is under 4.
 abbrev handed : List ℕ
 handed =
     0x200000000000000200000000000000000000000000000000017a00a00000000a
-    ∷ 0x2000000200000002000000000000000001c0000000000000003e00a10000000b
+    ∷ 0x2000000200000002000000000000000001c000000000000000fc00a10000000b
     ∷ 0x400000024805080000000000200000010000200000000000002000a200000014
     ∷ 0x200000040000000100000000000000000000000000000000019800a30000000c
     ∷ 0x200000050000000100000000000000000000000000000000023200a40000000d
@@ -242,14 +242,13 @@ handedOn = record {
       ∷ grants (plain (merge 0x4839400000000003 0x4029000000000004 0 2)) (0xb187000000030000 ∷ []) 0 2 104 nothing
       ∷ grants (over (200 ∷ []) (access writing 0xb18700000003000c 0)) [] 0 2 104 (store 47 (200 ∷ []))
       ∷ refuses (plain (lock 0xb187000000030000 1)) 7 0 2 104
-      ∷ grants (plain (revoke 0xb187000000030000 3)) (0xdd43400003000000 ∷ []) 0 2 105 (store 35 (zeros 13))
-      ∷ grants (plain (revoke 0x4028400000000001 0)) (0x35c8400100000000 ∷ []) 0 2 106 (store 16 (zeros 16))
+      ∷ grants (plain (revoke 0x4028400000000001 0)) (0x3269000100000000 ∷ []) 0 2 105 (store 16 (zeros 16))
       ∷ [];
   left =
       0x200000000000000200000000000000000000000000000000017a00a00000000a
-      ∷ 0x200000020000000200000000000000000000000000000000003ad72100000069
+      ∷ 0x200000020000000200000000000000000000000000000000003ac9a400000068
       ∷ 0x20000004000000006000000000000000003fffffffffffffffc8cc0100000065
-      ∷ 0x2000000460000001a0000000000000000000000000000000003a750d00000068
+      ∷ 0x2000000460000001a00000000000000000000000000000000190c61c00000067
       ∷ 0
       ∷ 0x200000000000000000002000000000000000000000000000003a00a50000000e
       ∷ 0x400000000805280000000000a00000008000200000000000003800a60000001e
@@ -401,7 +400,7 @@ limits =
 abbrev pub sessions : List Session
 sessions = fromReset ∷ handedOver ∷ handedOn ∷ goingRound ∷ lastNonces ∷ passedOver ∷ noneLeft ∷ []
 
--- bytes that are written, read, fetched and zeroed through the root of 8 bytes
+-- bytes that are written, read and fetched through the root of 8 bytes
 abbrev root8 : List ℕ
 root8 = 0x200000000000000100000000000000000000000000000000003a000000000000 ∷ 0 ∷ []
 
@@ -415,5 +414,4 @@ bytesMoved =
     (over (zeros 2) (access fetching 4 0) ∷ over (9 ∷ 9 ∷ []) (access reading 7 0) ∷ [])
     (203 ∷ 6 ∷ 9 ∷ 9 ∷ [])
     (1 ∷ 2 ∷ 201 ∷ 202 ∷ 203 ∷ 6 ∷ 7 ∷ 8 ∷ [])
-    ∷ moves (known 0 0 0 1) root8 (1 ∷ 2 ∷ 201 ∷ 202 ∷ 203 ∷ 6 ∷ 7 ∷ 8 ∷ []) (over (9 ∷ []) (revoke 0 0) ∷ []) (9 ∷ []) (zeros 8)
     ∷ []
