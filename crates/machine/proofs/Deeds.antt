@@ -91,7 +91,7 @@ module _ (m : ℕ) (s : State) (t : List ℕ) (inv : Inv m s t) where
       (λ i x sh nr tc ins.
       let live : Live l = (search, search) in
       let o : Owns t n (ownerOf l) = owns n (search) live in
-      let tc′ : (at t n .base + named k .offset ≤ x) × (x < at t n .base + named k .offset + length b) = touched w (at t n .base + named k .offset) b x tc in
+      let tc′ = touched w _ b x tc in
       let here : In (at t n) x = omega (arith, leb-true (named k .offset + length b) (at t n .length) (search)) in
       let e : ownerOf l ≡ i = inv .tiled (ownerOf l) i x (record { direct = owner-direct o; inside = owner-range m s t inv x o here }) (record { direct = sh .direct; inside = ins }) in
       owner-open t l u live (search) (rw e sh))

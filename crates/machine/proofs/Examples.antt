@@ -13,7 +13,7 @@ use Rattle.machine.specs.Issuing.{passOver, seek}
 use Rattle.machine.specs.Line.{walk}
 use Rattle.machine.specs.Operations.{climb}
 use Rattle.machine.specs.Parts.{at, cleared, put, size}
-use Rattle.machine.specs.Session.{Answered, examples}
+use Rattle.machine.specs.Session.{examples, Followed}
 use Rattle.machine.specs.Steps.{answer, decide, decision, step}
 use Rattle.machine.proofs.Lent.{as-long}
 
@@ -21,8 +21,10 @@ pub examples-agree : Agree examples
 unfolding bytes number lowBytes lowNumber directNumber directOf entryNumber entryOf indirectNumber indirectOf illFormed within absorb add64 compress finish padded rotl siphash sipRound word tagOf passOver seek walk climb at cleared put size decide
 examples-agree = refl
 
--- and its refusals are those of the machine's answers
-pub answered : Answered
-unfolding Answered step answer
-answered σ [] = refl
-answered σ (q ∷ qs) = ap (λ ns. decision σ q .reply .refusal ∷ ns) (rw (as-long σ q .memory) at (answered (step σ q) qs))
+-- and what is decided on a list is what the machine's run of it comes to
+pub followed : Followed
+unfolding Followed step answer
+followed σ [] = (refl, refl)
+followed σ (q ∷ qs) =
+    let r = rw (as-long σ q .memory) at (followed (step σ q) qs) in
+    (ap (λ rs. decision σ q .reply ∷ rs) (r .0), r .1)

@@ -67,18 +67,18 @@ transfer-fits m fetching a b h = (tt, (h, refl))
 
 pub granted-fits : (m : ℕ) (s : State) (t : List ℕ) (q : Request) (b : List ℕ) → Passed (checks m s t q b) → Fitting m t q b (grant m t q b)
 granted-fits m s t (reset k0 k1 ν) b h = record { effect = (tt, tt); encoding = omega arith; within = inl resets; few = omega arith }
-granted-fits m s t (access w k u) b h = record { effect = transfer-fits m w _ b (access-inside m s t w k u b h); encoding = omega arith; within = inr tt; few = omega arith }
+granted-fits m s t (access w k u) b h = record { effect = transfer-fits m w _ b (omega (arith, access-inside m s t w k u b h)); encoding = omega arith; within = inr tt; few = omega arith }
 granted-fits m s t (create k u l x p c) b h = record {
   effect = (tt, tt);
-  encoding = leb-true c 3 (search);
+  encoding = omega (arith, leb-true c 3 (search));
   within = inr (by-cond (λ w. Within (size t) (give (partOf (namedEntry t k) l x p) ∷ w ∷ [])) (eqb l (namedEntry t k .length)) (λ e. tt) (λ e. (ltb-true _ _ (search), tt)));
   few = by-cond (λ w. giving (give (partOf (namedEntry t k) l x p) ∷ w ∷ []) ≤ 2) (eqb l (namedEntry t k .length)) (λ e. omega arith) (λ e. omega arith);
 }
-granted-fits m s t (merge j k u c) b h = record { effect = (tt, tt); encoding = leb-true c 3 (search); within = inr (ltb-true (numberOf j) (size t) (search), tt); few = omega arith }
-granted-fits m s t (derive k o l p c) b h = record { effect = (tt, tt); encoding = leb-true c 3 (search); within = inr tt; few = omega arith }
-granted-fits m s t (executeOnly k c) b h = record { effect = (tt, tt); encoding = leb-true c 3 (search); within = inr tt; few = omega arith }
+granted-fits m s t (merge j k u c) b h = record { effect = (tt, tt); encoding = omega (arith, leb-true c 3 (search)); within = inr (ltb-true (numberOf j) (size t) (search), tt); few = omega arith }
+granted-fits m s t (derive k o l p c) b h = record { effect = (tt, tt); encoding = omega (arith, leb-true c 3 (search)); within = inr tt; few = omega arith }
+granted-fits m s t (executeOnly k c) b h = record { effect = (tt, tt); encoding = omega (arith, leb-true c 3 (search)); within = inr tt; few = omega arith }
 granted-fits m s t (clone k) b h = record { effect = (tt, tt); encoding = omega arith; within = inr tt; few = omega arith }
 granted-fits m s t (release k) b h = record { effect = (tt, tt); encoding = omega arith; within = inr (calm-within (size t) (grantRelease m t (numberOf k) .writes) (release-calm m t (numberOf k))); few = omega (arith, calm-giving (grantRelease m t (numberOf k) .writes) (release-calm m t (numberOf k))) }
 granted-fits m s t (lock k u) b h = record { effect = (tt, tt); encoding = omega arith; within = inr tt; few = omega arith }
 granted-fits m s t (unlock k u) b h = record { effect = (tt, tt); encoding = omega arith; within = inr tt; few = omega arith }
-granted-fits m s t (revoke k c) b h = record { effect = ((λ i. search (bytes-zeros), tt), tt); encoding = leb-true c 3 (search); within = inr (ltb-true (numberOf k) (size t) (search), tt); few = omega arith }
+granted-fits m s t (revoke k c) b h = record { effect = ((λ i. search (bytes-zeros), tt), tt); encoding = omega (arith, leb-true c 3 (search)); within = inr (ltb-true (numberOf k) (size t) (search), tt); few = omega arith }

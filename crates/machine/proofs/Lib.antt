@@ -3,6 +3,7 @@ pub mod ByteLaws
 pub mod Choices
 pub mod Decided
 pub mod Deeds
+pub mod Depth
 pub mod Effects
 pub mod Examples
 pub mod Fates
@@ -11,7 +12,9 @@ pub mod Fuel
 pub mod Given
 pub mod Grants
 pub mod Lent
+pub mod Recorded
 pub mod Refused
+pub mod Rows
 pub mod Runs
 pub mod Settled
 pub mod SliceLaws

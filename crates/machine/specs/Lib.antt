@@ -1,4 +1,5 @@
 pub mod Demand3
+pub mod Depth
 pub mod FromReset
 pub mod Given
 pub mod Issuing
@@ -6,8 +7,11 @@ pub mod Lent
 pub mod Line
 pub mod Operations
 pub mod Parts
+pub mod Recorded
+pub mod Recordings
 pub mod Refusals
 pub mod Requests
+pub mod Rows
 pub mod Searches
 pub mod Session
 pub mod Steps

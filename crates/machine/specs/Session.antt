@@ -2,7 +2,7 @@
 -- of memory, so that they are had from its length.
 -- Assumes nothing.
 use mathlib.Core.Path.{_≡_}
-use mathlib.Core.List.{List, [], _∷_, _++_}
+use mathlib.Core.List.{List, [], _∷_, _++_, map}
 use Prim.Native.Nat.{ℕ}
 use lib.ListN.{getD, length, replicate, take}
 use Rattle.layout.specs.Examples.{packedTokens, printedRoot, Row}
@@ -11,7 +11,7 @@ use Rattle.tokens.specs.Token.{token}
 use Rattle.machine.specs.Operations.{Decision}
 use Rattle.machine.specs.Parts.{State}
 use Rattle.machine.specs.Requests.{access, Call, create, derive, lock, reading, Request, reset}
-use Rattle.machine.specs.Steps.{Answer, answers, decide, Machine}
+use Rattle.machine.specs.Steps.{Answer, answers, decide, Machine, run}
 
 abbrev pub bytes65536 : ℕ
 bytes65536 = 65536
@@ -27,13 +27,16 @@ abbrev pub refusals : List Decision → List ℕ
 refusals [] = []
 refusals (d ∷ ds) = d .reply .refusal ∷ refusals ds
 
--- these are the refusals of the machine's answers
-abbrev pub refusalsIn : List Answer → List ℕ
-refusalsIn [] = []
-refusalsIn (a ∷ rest) = a .reply .refusal ∷ refusalsIn rest
+-- the table that the last of them leaves, t if there is none
+abbrev pub leaves : (t : List ℕ) → List Decision → List ℕ
+leaves t [] = t
+leaves t (d ∷ ds) = leaves (d .table) ds
 
-unfoldable pub Answered : Type 0
-Answered = (σ : Machine) (qs : List Call) → refusalsIn (answers σ qs) ≡ refusals (decisions (length (σ .memory)) (σ .state) (σ .table) qs)
+-- they are those of the machine that runs the list: its replies, and its table at the end
+unfoldable pub Followed : Type 0
+Followed =
+    (σ : Machine) (qs : List Call) → let ds = decisions (length (σ .memory)) (σ .state) (σ .table) qs in
+    (map (λ (a : Answer). a .reply) (answers σ qs) ≡ map (λ (d : Decision). d .reply) ds) × (run σ qs .table ≡ leaves (σ .table) ds)
 
 -- the token of number 0 and tag 0 with an offset, in encoding 0
 abbrev zeroAt : ℕ → ℕ
@@ -42,7 +45,7 @@ zeroAt o = token 0 (record { tag = 0; number = 0; offset = o })
 abbrev read : (length offset task : ℕ) → Call
 read l o u = record { request = access reading (zeroAt o) u; buffer = replicate l 0 }
 
-abbrev plain : Request → Call
+abbrev pub plain : Request → Call
 plain q = record { request = q; buffer = [] }
 
 -- reset, then cases 1 to 8

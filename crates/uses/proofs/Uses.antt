@@ -16,6 +16,7 @@ use Rattle.layout.specs.Tag.{tagOf}
 use Rattle.layout.specs.declared.entry.Entry.{Entry}
 use Rattle.machine.specs.Demand3 as claim
 use Rattle.machine.specs.Demand3.{above, Accepted, Alike, Closed, Demand3, In, issuedIn, itself, LockedFor, Secret, Unreset}
+use Rattle.machine.specs.Depth.{Bounded, climbMeets, Depth, dropMeets, lineMeets, walkMeets}
 use Rattle.machine.specs.Issuing.{passOver, seek}
 use Rattle.machine.specs.Line.{walk}
 use Rattle.machine.specs.Lent.{AllBytes, LentBytes}
@@ -26,6 +27,7 @@ use Rattle.machine.specs.Requests.{Call, reading}
 use Rattle.machine.specs.Steps.{Answer, answer, decide, Machine, run, step}
 use Rattle.uses.specs.Uses.{before, changed, child, derives, drops, First, first, listOf, locks7, Premises, read, reset1, revokes, rootName}
 use Rattle.machine.proofs.ByteLaws.{bytes-zeros}
+use Rattle.machine.proofs.Depth.{depth}
 use Rattle.machine.proofs.Lent.{bytes-stay}
 use Rattle.machine.proofs.Theorem.{alike-refl, demand3}
 use Rattle.machine.proofs.Unchanged.{held-drop, lock-again}
@@ -154,3 +156,11 @@ pub dropped-under-lock :
     (step τ drops ≡ τ) × (answer τ drops .reply .dropped ≡ 0)
 unfolding HeldDrop before bytes number lowBytes lowNumber directNumber directOf entryNumber entryOf indirectNumber indirectOf illFormed within absorb add64 compress finish padded rotl siphash sipRound word tagOf passOver seek walk at cleared put size decide step answer
 dropped-under-lock = held-drop (run before (reset1 1 ∷ derives ∷ locks7 ∷ [])) (tokenFor 0 child) [] refl refl
+
+-- ---- how far a walk and a climb go: the child's line and its drop meet every entry of a table of two
+
+pub all-met :
+    let t : List ℕ = run before (reset1 1 ∷ derives ∷ []) .table in
+    Bounded 8 t 1 × (lineMeets 8 t 1 ≡ 1 ∷ 0 ∷ []) × (dropMeets t 1 ≡ 1 ∷ 0 ∷ []) × (size t ≡ 2)
+unfolding Depth walkMeets climbMeets before bytes number lowBytes lowNumber directNumber directOf entryNumber entryOf indirectNumber indirectOf illFormed within absorb add64 compress finish padded rotl siphash sipRound word tagOf passOver seek walk at cleared put size decide step answer
+all-met = (depth 8 (run before (reset1 1 ∷ derives ∷ []) .table) 1 (omega arith), refl, refl, refl)

@@ -7,7 +7,8 @@ use lib.ListN.{replicate, set}
 use Rattle.machine.specs.Demand3.{Accepted, FirstRevoke, LockedFor, NoneCarries, NoReset, resetCall, Under, Unreset}
 use Rattle.machine.specs.Writes.{Name, tokenFor}
 use Rattle.machine.specs.Parts.{at}
-use Rattle.machine.specs.Requests.{access, Call, derive, lock, reading, release, Request, revoke}
+use Rattle.machine.specs.Requests.{access, Call, derive, lock, reading, release, revoke}
+use Rattle.machine.specs.Session.{plain}
 use Rattle.machine.specs.Steps.{decision, Machine, run, step}
 
 -- ---- the premises of demand 3, in one place
@@ -44,9 +45,6 @@ pub record Premises (σ : Machine) (f : First) (qs : List Call) (r : Call) (a : 
 -- before reset
 unfoldable pub before : Machine
 before = record { state = record { key0 = 0; key1 = 0; last = 0; next = 0 }; table = replicate 64 0; memory = replicate 8 9 }
-
-abbrev plain : Request → Call
-plain q = record { request = q; buffer = [] }
 
 -- bytes 2 to 4 of the root for reading; the root locked for 7
 abbrev pub derives : Call

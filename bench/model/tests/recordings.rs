@@ -1,0 +1,207 @@
+//! The recorded sessions of crates/machine/specs/Recordings.antt are this model's: each request is
+//! served again, and answers, states, tables, buffers and memory are held to what stands there.
+
+mod definitions;
+
+use definitions::{read, Term};
+use model::operation::*;
+use model::{serve, Answer, Request, State};
+use std::collections::BTreeMap;
+
+type Definitions = BTreeMap<String, Term>;
+
+fn recordings() -> Definitions {
+    let specs = concat!(env!("CARGO_MANIFEST_DIR"), "/../../crates/machine/specs");
+    read(&std::fs::read_to_string(format!("{specs}/Recordings.antt")).expect("the recordings"))
+}
+
+fn bytes(term: &Term) -> Vec<u8> {
+    match term.call() {
+        ("zeros", [many]) => vec![0; many.number() as usize],
+        _ => term.list().iter().map(|byte| byte.number() as u8).collect(),
+    }
+}
+
+/// The table of these entries, each a number of 32 bytes, the top byte first.
+fn table(term: &Term, definitions: &Definitions) -> Vec<u8> {
+    let entries = definitions.get(term.word()).unwrap_or(term).list();
+    entries.iter().flat_map(|entry| entry.wide()).collect()
+}
+
+fn state(term: &Term) -> State {
+    let ("known", [key0, key1, last, next]) = term.call() else { panic!("no state: {term:?}") };
+    let [key0, key1, last, next] = [key0, key1, last, next].map(Term::number);
+    State { key0, key1, last, next }
+}
+
+/// A request with the buffer that it brings.
+fn call(term: &Term) -> (Request, Vec<u8>) {
+    match term.call() {
+        ("plain", [asked]) => (request(asked), Vec::new()),
+        ("over", [buffer, asked]) => (request(asked), bytes(buffer)),
+        _ => panic!("no call: {term:?}"),
+    }
+}
+
+fn request(term: &Term) -> Request {
+    let (name, words) = term.call();
+    let way = match (name, words) {
+        ("access", [way, ..]) => way.word(),
+        _ => "",
+    };
+    let n: Vec<u64> = words[usize::from(name == "access")..].iter().map(Term::number).collect();
+    let empty = Request { token: n[0], ..Request::default() };
+    match name {
+        "reset" => Request { operation: RESET, second: n[1], task: n[2], ..empty },
+        "access" => Request { operation: way_of(way), task: n[1], ..empty },
+        "create" => Request {
+            operation: CREATE,
+            task: n[1],
+            length: n[2],
+            user: n[3],
+            permissions: n[4],
+            encoding: n[5],
+            ..empty
+        },
+        "merge" => Request { operation: MERGE, second: n[1], task: n[2], encoding: n[3], ..empty },
+        "derive" => Request {
+            operation: DERIVE,
+            second: n[1],
+            length: n[2],
+            permissions: n[3],
+            encoding: n[4],
+            ..empty
+        },
+        "executeOnly" => Request { operation: EXECUTE_ONLY, encoding: n[1], ..empty },
+        "clone" => Request { operation: CLONE, ..empty },
+        "release" => Request { operation: DROP, ..empty },
+        "lock" => Request { operation: LOCK, task: n[1], ..empty },
+        "unlock" => Request { operation: UNLOCK, task: n[1], ..empty },
+        "revoke" => Request { operation: REVOKE, encoding: n[1], ..empty },
+        _ => panic!("no request: {term:?}"),
+    }
+}
+
+fn way_of(word: &str) -> u64 {
+    match word {
+        "reading" => READ,
+        "writing" => WRITE,
+        "fetching" => FETCH,
+        _ => panic!("no way of access: {word}"),
+    }
+}
+
+/// What a row says of a request: the answer, the last number and the next nonce, and the effect.
+struct Told<'a> {
+    call: &'a Term,
+    answer: Answer,
+    last: u64,
+    next: u64,
+    effect: (&'a str, &'a [Term]),
+}
+
+fn told(row: &Term) -> Told<'_> {
+    let mut answer = Answer::default();
+    match row.call() {
+        ("grants", [call, tokens, dropped, last, next, effect]) => {
+            let tokens = tokens.list();
+            answer.first = tokens.first().map_or(0, Term::number);
+            answer.second = tokens.get(1).map_or(0, Term::number);
+            answer.dropped = dropped.number();
+            Told { call, answer, last: last.number(), next: next.number(), effect: effect.call() }
+        }
+        ("refuses", [call, refusal, place, last, next]) => {
+            (answer.refusal, answer.place) = (refusal.number(), place.number());
+            Told {
+                call,
+                answer,
+                last: last.number(),
+                next: next.number(),
+                effect: ("nothing", &[]),
+            }
+        }
+        _ => panic!("no row: {row:?}"),
+    }
+}
+
+/// Memory and buffer as an effect leaves them.
+fn carried(effect: (&str, &[Term]), memory: &mut [u8], buffer: &mut [u8]) {
+    match effect {
+        ("nothing", []) => {}
+        ("load", [start, length]) => {
+            let start = start.number() as usize;
+            buffer.copy_from_slice(&memory[start..start + length.number() as usize]);
+        }
+        ("store", [start, stored]) => {
+            let (start, stored) = (start.number() as usize, bytes(stored));
+            memory[start..start + stored.len()].copy_from_slice(&stored);
+        }
+        _ => panic!("no effect: {effect:?}"),
+    }
+}
+
+/// Serves a session and counts its rows. Each row finds bytes in memory that differ from each other.
+fn replay(session: &Term, definitions: &Definitions) -> usize {
+    let long = session.field("memory").number() as u8;
+    let (mut at, mut entries) =
+        (state(session.field("state")), table(session.field("table"), definitions));
+    let rows = session.field("rows").list();
+    for row in rows {
+        let expected = told(row);
+        let (asked, mut buffer) = call(expected.call);
+        let mut memory: Vec<u8> = (1..=long).collect();
+        let (mut left, mut back) = (memory.clone(), buffer.clone());
+        carried(expected.effect, &mut left, &mut back);
+        let answer = serve(asked, &mut at, &mut entries, &mut memory, &mut buffer);
+        let said = (answer, at.last, at.next, &memory, &buffer);
+        assert_eq!(said, (expected.answer, expected.last, expected.next, &left, &back), "{row:?}");
+    }
+    assert_eq!(entries, table(session.field("left"), definitions));
+    rows.len()
+}
+
+#[test]
+fn sessions_are_served_as_recorded() {
+    let definitions = recordings();
+    let sessions = definitions["sessions"].list();
+    let rows: usize =
+        sessions.iter().map(|name| replay(&definitions[name.word()], &definitions)).sum();
+    assert_eq!((sessions.len(), rows), (7, 180));
+}
+
+#[test]
+fn limits_are_those_recorded() {
+    let definitions = recordings();
+    let rows = definitions["limits"].list();
+    for row in rows {
+        let ("limit", [memory, entries, last, next, asked, refusal]) = row.call() else {
+            panic!("no limit: {row:?}")
+        };
+        let mut at = State { last: last.number(), next: next.number(), ..State::default() };
+        let (mut memory, mut entries) =
+            (vec![0; memory.number() as usize], vec![0; entries.number() as usize]);
+        let (asked, mut buffer) = call(asked);
+        let answer = serve(asked, &mut at, &mut entries, &mut memory, &mut buffer);
+        assert_eq!(answer.refusal, refusal.number(), "{row:?}");
+    }
+    assert_eq!(rows.len(), 30);
+}
+
+#[test]
+fn bytes_move_as_recorded() {
+    let definitions = recordings();
+    let rows = definitions["bytesMoved"].list();
+    for row in rows {
+        let ("moves", [from, entries, memory, calls, buffers, left]) = row.call() else {
+            panic!("no moves: {row:?}")
+        };
+        let (mut at, mut entries) = (state(from), table(entries, &definitions));
+        let (mut memory, mut back) = (bytes(memory), Vec::new());
+        for (asked, mut buffer) in calls.list().iter().map(call) {
+            serve(asked, &mut at, &mut entries, &mut memory, &mut buffer);
+            back.extend(buffer);
+        }
+        assert_eq!((back, memory), (bytes(buffers), bytes(left)), "{row:?}");
+    }
+    assert_eq!(rows.len(), 2);
+}

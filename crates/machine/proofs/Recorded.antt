@@ -1,0 +1,21 @@
+-- The machine serves the recorded sessions as the second implementation did: by computation.
+-- Assumes nothing.
+use mathlib.Core.Path.{refl}
+use mathlib.Core.List.{_++_}
+use Rattle.bits.specs.Bytes.{bytes, lowBytes, lowNumber, number}
+use Rattle.bits.specs.SipHash.{absorb, add64, compress, finish, padded, rotl, siphash, sipRound, word}
+use Rattle.layout.specs.Entry.{directNumber, directOf, entryNumber, entryOf, indirectNumber, indirectOf}
+use Rattle.layout.specs.Form.{illFormed}
+use Rattle.layout.specs.Tag.{tagOf}
+use Rattle.tokens.specs.Permissions.{within}
+use Rattle.machine.specs.Issuing.{passOver, seek}
+use Rattle.machine.specs.Line.{walk}
+use Rattle.machine.specs.Operations.{climb}
+use Rattle.machine.specs.Parts.{at, cleared, put, size}
+use Rattle.machine.specs.Recorded.{Recorded}
+use Rattle.machine.specs.Recordings.{bytesMoved, limits, sessions}
+use Rattle.machine.specs.Steps.{answer, decide, step}
+
+pub sessions-agree : Recorded sessions (bytesMoved ++ limits)
+unfolding bytes number lowBytes lowNumber directNumber directOf entryNumber entryOf indirectNumber indirectOf illFormed within absorb add64 compress finish padded rotl siphash sipRound word tagOf passOver seek walk climb at cleared put size decide step answer
+sessions-agree = (refl, refl)

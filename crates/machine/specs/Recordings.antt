@@ -1,0 +1,417 @@
+-- Sessions as the second implementation (bench/model, written from the papers alone) served them: its answers, its state and the bytes of its table. No number
+-- here was had from the definitions; bench/model/tests/recordings.rs holds the model to each row. A granted row: tokens, drop's number, last number, next
+-- nonce, effect; a refused one: refusal, which entry was bad, last number, next nonce. The model hands back buffer and memory; an effect is told by which of
+-- their bytes changed.
+-- Assumes nothing.
+use mathlib.Core.List.{List, [], _∷_}
+use Prim.Native.Nat.{ℕ}
+use Rattle.layout.specs.Examples.{Row}
+use Rattle.machine.specs.Operations.{load, nothing, store}
+use Rattle.machine.specs.Recorded.{grants, known, limit, moves, over, refuses, Session, zeros}
+use Rattle.machine.specs.Requests.{access, clone, create, derive, executeOnly, fetching, lock, merge, reading, release, reset, revoke, unlock, writing}
+use Rattle.machine.specs.Session.{plain}
+
+-- A table that no reset leaves. Entry n has tag a0 + n, hex. 0, 3, 4, 13 and 14 are direct, 3 not Lockable; 1 is locked for 7 and not Lockable, and 2 is under it; 5 and 11 are
+-- ill-formed, 6 is under 5; 7 has a parent token with another tag, 8 is under 7; 9 is under 3, with count 65,534; 10 has no older parent; 12 is under 4.
+abbrev handed : List ℕ
+handed =
+    0x200000000000000200000000000000000000000000000000017a00a00000000a
+    ∷ 0x2000000200000002000000000000000001c000000000000000fc00a10000000b
+    ∷ 0x400000024805080000000000200000010000200000000000002000a200000014
+    ∷ 0x200000040000000100000000000000000000000000000000019800a30000000c
+    ∷ 0x200000050000000100000000000000000000000000000000023200a40000000d
+    ∷ 0x200000000000000000002000000000000000000000000000003a00a50000000e
+    ∷ 0x400000000805280000000000a00000008000200000000000003800a60000001e
+    ∷ 0x400000060805f00000000001c00000010000400000000000002000a70000001f
+    ∷ 0x400000060805380000000000e00000008000200000000000002000a800000020
+    ∷ 0x400000040805180000000000600000011fffc00000000000000800a900000021
+    ∷ 0x400000050805200000000000800000008000200000000000003000aa0000000d
+    ∷ 0x600000000000000000000000000000000000000000000000000000ab00000000
+    ∷ 0x400000050805200000000000800000008000200000000000003000ac00000022
+    ∷ 0x200000070000000100000000000000000000000000000000003a00ad00000010
+    ∷ 0x200000060000000100002000000000000000000000000000003a00ae00000011
+    ∷ 0
+    ∷ []
+
+-- from reset on: every operation, each encoding, a lock, a drop under it and a drop that climbs
+abbrev fromReset : Session
+fromReset = record {
+  memory = 24;
+  state = known 0 0 0 0;
+  table = 0 ∷ 0 ∷ 0 ∷ 0 ∷ 0 ∷ [];
+  rows =
+      grants (plain (reset 0x706050403020100 0xf0e0d0c0b0a0908 1)) [] 0 0 1 nothing
+      ∷ grants (plain (create 0 0 8 9 6 2)) (0xafb3c00000010000 ∷ 0x898ac00000000000 ∷ []) 0 1 3 nothing
+      ∷ grants (plain (derive 0xafb3c00000010000 2 5 6 3)) (0xf5c0000002000000 ∷ []) 0 2 4 nothing
+      ∷ grants (plain (derive 0xf5c0000002000000 1 2 4 1)) (0x5cc2000000000003 ∷ []) 0 3 5 nothing
+      ∷ grants (plain (executeOnly 0x898ac00000000000 0)) (0x3259800400000000 ∷ []) 0 4 6 nothing
+      ∷ refuses (plain (executeOnly 0x898ac00000000000 0)) 10 0 4 6
+      ∷ refuses (plain (derive 0xafb3c00000010000 0 1 0 0)) 10 0 4 6
+      ∷ refuses (plain (create 0xafb3c00000010000 0 8 0 0 0)) 9 0 4 6
+      -- accesses at a segment's edges
+      ∷ grants (over (zeros 13) (access reading 0x898ac00000000003 0)) [] 0 4 6 (load 11 13)
+      ∷ grants (over (200 ∷ []) (access writing 0xf5c0000002000004 0)) [] 0 4 6 (store 6 (200 ∷ []))
+      ∷ refuses (over (200 ∷ 201 ∷ []) (access writing 0xf5c0000002000004 0)) 8 0 4 6
+      ∷ grants (over (zeros 1) (access fetching 0x325980040000000f 0)) [] 0 4 6 (load 23 1)
+      ∷ grants (plain (clone 0xf5c0000002000000)) [] 0 4 6 nothing
+      -- a lock through the grandchild, again, by another; drops under it
+      ∷ grants (plain (lock 0x5cc2000000000003 7)) [] 0 4 6 nothing
+      ∷ grants (plain (lock 0xafb3c00000010000 7)) [] 0 4 6 nothing
+      ∷ refuses (plain (lock 0xf5c0000002000000 8)) 5 0 4 6
+      ∷ refuses (over (zeros 1) (access reading 0x5cc2000000000003 0)) 5 0 4 6
+      ∷ grants (over (zeros 2) (access reading 0x5cc2000000000003 7)) [] 0 4 6 (load 3 2)
+      ∷ grants (plain (release 0x5cc2000000000003)) [] 0 4 6 nothing
+      ∷ grants (plain (release 0xf5c0000002000000)) [] 0 4 6 nothing
+      ∷ refuses (plain (unlock 0x5cc2000000000003 8)) 5 0 4 6
+      ∷ grants (plain (unlock 0x5cc2000000000003 7)) [] 0 4 6 nothing
+      ∷ refuses (plain (unlock 0xafb3c00000010000 7)) 9 0 4 6
+      -- a drop that climbs; a merge once nothing is counted
+      ∷ grants (plain (release 0xf5c0000002000000)) [] 0 4 6 nothing
+      ∷ grants (plain (release 0x5cc2000000000003)) [] 1 4 6 nothing
+      ∷ refuses (plain (merge 0xafb3c00000010000 0x898ac00000000000 0 3)) 9 0 4 6
+      ∷ grants (plain (release 0x3259800400000000)) [] 1 4 6 nothing
+      ∷ refuses (plain (release 0x898ac00000000000)) 9 0 4 6
+      ∷ grants (plain (merge 0xafb3c00000010000 0x898ac00000000000 0 3)) (0xc14a800001000000 ∷ []) 0 4 7 nothing
+      ∷ refuses (over (zeros 1) (access reading 0xafb3c00000010000 0)) 2 0 4 7
+      ∷ refuses (plain (derive 0xc14a800001000000 3 21 0 0)) 8 0 4 7
+      ∷ grants (plain (derive 0xc14a800001000000 3 20 2 0)) (0x390f400200000000 ∷ []) 0 2 8 nothing
+      -- a revoke; a create of the whole
+      ∷ grants (plain (revoke 0xc14a800001000000 1)) (0x61ff800000000001 ∷ []) 0 2 9 (store 0 (zeros 24))
+      ∷ grants (over (zeros 24) (access reading 0x61ff800000000001 0)) [] 0 2 9 (load 0 24)
+      ∷ grants (plain (create 0x61ff800000000001 0 24 1 7 0)) (0x3e57400300000000 ∷ []) 0 3 10 nothing
+      ∷ refuses (over (zeros 1) (access reading 0 0)) 2 0 3 10
+      ∷ [];
+  left =
+      0
+      ∷ 0
+      ∷ 0x4000000068295000000000002000000280002000000000000010e43d00000007
+      ∷ 0x200000000000000300000000000000000000000000000000007af95d00000009
+      ∷ 0
+      ∷ [];
+}
+
+-- a table that was handed over: each refusal of each operation but 10 and 11, and the edges of what is granted
+abbrev handedOver : Session
+handedOver = record {
+  memory = 64;
+  state = known 1 2 14 100;
+  table = handed;
+  rows =
+      -- access
+      refuses (over (zeros 1) (access reading 0x4028000000000000 36028797018963968)) 1 0 14 100
+      ∷ refuses (over [] (access reading 0x4028000000000000 0)) 1 0 14 100
+      ∷ refuses (over (zeros 1) (access reading 0x1000000000 0)) 2 0 14 100
+      ∷ refuses (over (zeros 1) (access reading 0xf00000000 0)) 2 0 14 100
+      ∷ refuses (over (zeros 1) (access reading 0x8028400000000000 0)) 2 0 14 100
+      ∷ refuses (over (zeros 1) (access reading 0x4029400000000005 0)) 3 1 14 100
+      ∷ refuses (over (200 ∷ []) (access writing 0x29800600000000 0)) 3 2 14 100
+      ∷ refuses (over (zeros 1) (access reading 0x402ac0000000000b 0)) 3 1 14 100
+      ∷ refuses (over (zeros 1) (access reading 0x4029c00000000007 0)) 4 1 14 100
+      ∷ refuses (over (200 ∷ []) (access writing 0x402a000000000008 0)) 4 2 14 100
+      ∷ refuses (over (zeros 1) (access fetching 0x402a80000000000a 0)) 4 1 14 100
+      ∷ refuses (over (zeros 1) (access reading 0x4028400000000001 8)) 5 0 14 100
+      ∷ refuses (over (zeros 1) (access reading 0x4028800000000002 0)) 5 0 14 100
+      ∷ refuses (over (200 ∷ 201 ∷ 202 ∷ 203 ∷ 204 ∷ 205 ∷ 206 ∷ 207 ∷ 208 ∷ []) (access writing 0x4028800000000002 7)) 7 0 14 100
+      ∷ refuses (over (zeros 1) (access reading 0x4028c00000000003 0)) 7 0 14 100
+      ∷ refuses (over (zeros 1) (access fetching 0x4029000000000004 0)) 7 0 14 100
+      ∷ refuses (over (zeros 1) (access reading 0x402a400000000009 0)) 7 0 14 100
+      ∷ refuses (over (zeros 1) (access reading 0x28000000000010 0)) 8 0 14 100
+      ∷ refuses (over (zeros 2) (access reading 0x2800000000000f 0)) 8 0 14 100
+      ∷ grants (over (zeros 1) (access reading 0x2800000000000f 36028797018963967)) [] 0 14 100 (load 15 1)
+      -- create
+      ∷ refuses (plain (create 0x4028000000000000 36028797018963968 1 0 0 0)) 1 0 14 100
+      ∷ refuses (plain (create 0x4028000000000000 0 1 0 0 4)) 1 0 14 100
+      ∷ refuses (plain (create 0x4028000000000000 0 1 0 8 0)) 1 0 14 100
+      ∷ refuses (plain (create 0x4028000000000000 0 0 0 0 0)) 1 0 14 100
+      ∷ refuses (plain (create 0x28000000000001 0 1 0 0 0)) 1 0 14 100
+      ∷ refuses (plain (create 0x402bc0000000000f 0 1 0 0 0)) 2 0 14 100
+      ∷ refuses (plain (create 0x4029400000000005 0 1 0 0 0)) 3 1 14 100
+      ∷ refuses (plain (create 0x402a000000000008 0 1 0 0 0)) 4 2 14 100
+      ∷ refuses (plain (create 0x4028400000000001 8 1 0 0 0)) 5 0 14 100
+      ∷ refuses (plain (create 0x4028800000000002 7 1 0 7 0)) 6 0 14 100
+      ∷ refuses (plain (create 0x4028c00000000003 0 9 0 4 0)) 7 0 14 100
+      ∷ refuses (plain (create 0x4028000000000000 0 17 0 7 0)) 8 0 14 100
+      ∷ refuses (plain (create 0x4028400000000001 7 1 0 7 0)) 9 0 14 100
+      ∷ refuses (plain (create 0x402b80000000000e 0 1 0 7 0)) 9 0 14 100
+      -- merge
+      ∷ refuses (plain (merge 0x4028c00000000003 0x4029000000000004 36028797018963968 0)) 1 0 14 100
+      ∷ refuses (plain (merge 0x4028c00000000003 0x4029000000000004 0 4)) 1 0 14 100
+      ∷ refuses (plain (merge 0x28c00300000001 0x4029000000000004 0 0)) 1 0 14 100
+      ∷ refuses (plain (merge 0x4028c00000000003 0x29000400000001 0 0)) 1 0 14 100
+      ∷ refuses (plain (merge 0x402bc0000000000f 0x4029400000000005 0 0)) 2 0 14 100
+      ∷ refuses (plain (merge 0x4028c00000000003 0x402bc0000000000f 0 0)) 2 0 14 100
+      ∷ refuses (plain (merge 0x4029400000000005 0x402bc0000000000f 0 0)) 3 1 14 100
+      ∷ refuses (plain (merge 0x4028c00000000003 0x4029800000000006 0 0)) 3 2 14 100
+      ∷ refuses (plain (merge 0x4029c00000000007 0x402bc0000000000f 0 0)) 4 1 14 100
+      ∷ refuses (plain (merge 0x4028c00000000003 0x402a000000000008 0 0)) 4 2 14 100
+      ∷ refuses (plain (merge 0x4028400000000001 0x402bc0000000000f 8 0)) 5 0 14 100
+      ∷ refuses (plain (merge 0x4028000000000000 0x4028400000000001 8 0)) 5 0 14 100
+      ∷ refuses (plain (merge 0x402b00000000000c 0x4029000000000004 0 0)) 6 0 14 100
+      ∷ refuses (plain (merge 0x4028c00000000003 0x402b00000000000c 0 0)) 6 0 14 100
+      ∷ refuses (plain (merge 0x4029000000000004 0x4028c00000000003 0 0)) 8 0 14 100
+      ∷ refuses (plain (merge 0x4029000000000004 0x4029000000000004 0 0)) 8 0 14 100
+      ∷ refuses (plain (merge 0x4028000000000000 0x4028400000000001 7 0)) 9 0 14 100
+      ∷ refuses (plain (merge 0x4028400000000001 0x4028c00000000003 7 0)) 9 0 14 100
+      ∷ refuses (plain (merge 0x4029000000000004 0x402b80000000000e 0 0)) 9 0 14 100
+      ∷ refuses (plain (merge 0x402b80000000000e 0x402b40000000000d 0 0)) 9 0 14 100
+      -- derive
+      ∷ refuses (plain (derive 0x4028000000000000 0 1 0 4)) 1 0 14 100
+      ∷ refuses (plain (derive 0x4028000000000000 0 1 8 0)) 1 0 14 100
+      ∷ refuses (plain (derive 0x4028000000000000 0 0 0 0)) 1 0 14 100
+      ∷ refuses (plain (derive 0x28000000000001 0 1 0 0)) 1 0 14 100
+      ∷ refuses (plain (derive 0x402bc0000000000f 0 1 0 0)) 2 0 14 100
+      ∷ refuses (plain (derive 0x4029800000000006 0 1 0 0)) 3 2 14 100
+      ∷ refuses (plain (derive 0x4029c00000000007 0 1 0 0)) 4 1 14 100
+      ∷ refuses (plain (derive 0x4028800000000002 0 9 2 0)) 7 0 14 100
+      ∷ refuses (plain (derive 0x4028000000000000 1 15 7 0)) 8 0 14 100
+      -- execute-only
+      ∷ refuses (plain (executeOnly 0x4028000000000000 4)) 1 0 14 100
+      ∷ refuses (plain (executeOnly 0x28000000000001 0)) 1 0 14 100
+      ∷ refuses (plain (executeOnly 0x402bc0000000000f 0)) 2 0 14 100
+      ∷ refuses (plain (executeOnly 0x402ac0000000000b 0)) 3 1 14 100
+      ∷ refuses (plain (executeOnly 0x402a000000000008 0)) 4 2 14 100
+      ∷ refuses (plain (executeOnly 0x4029000000000004 0)) 7 0 14 100
+      -- clone
+      ∷ refuses (plain (clone 0x28000000000001)) 1 0 14 100
+      ∷ refuses (plain (clone 0x402bc0000000000f)) 2 0 14 100
+      ∷ refuses (plain (clone 0x4029400000000005)) 3 1 14 100
+      ∷ refuses (plain (clone 0x402a000000000008)) 4 2 14 100
+      -- counts at their top
+      ∷ grants (plain (clone 0x402a400000000009)) [] 0 14 100 nothing
+      ∷ refuses (plain (clone 0x402a400000000009)) 9 0 14 100
+      ∷ refuses (plain (derive 0x402a400000000009 0 7 1 0)) 9 0 14 100
+      ∷ refuses (plain (executeOnly 0x402a400000000009 0)) 9 0 14 100
+      -- drop
+      ∷ refuses (plain (release 0x28000000000001)) 1 0 14 100
+      ∷ refuses (plain (release 0x402bc0000000000f)) 2 0 14 100
+      ∷ refuses (plain (release 0x4029800000000006)) 3 2 14 100
+      ∷ refuses (plain (release 0x4029400000000005)) 3 1 14 100
+      ∷ refuses (plain (release 0x4028000000000000)) 9 0 14 100
+      ∷ grants (plain (release 0x402a400000000009)) [] 0 14 100 nothing
+      -- lock
+      ∷ refuses (plain (lock 0x4028000000000000 0)) 1 0 14 100
+      ∷ refuses (plain (lock 0x4028000000000000 36028797018963968)) 1 0 14 100
+      ∷ refuses (plain (lock 0x28000000000001 1)) 1 0 14 100
+      ∷ refuses (plain (lock 0x402bc0000000000f 1)) 2 0 14 100
+      ∷ refuses (plain (lock 0x4029800000000006 1)) 3 2 14 100
+      ∷ refuses (plain (lock 0x4029c00000000007 1)) 4 1 14 100
+      ∷ refuses (plain (lock 0x4028800000000002 8)) 5 0 14 100
+      ∷ refuses (plain (lock 0x4028c00000000003 1)) 7 0 14 100
+      ∷ refuses (plain (lock 0x402a400000000009 1)) 7 0 14 100
+      -- unlock
+      ∷ refuses (plain (unlock 0x4028400000000001 0)) 1 0 14 100
+      ∷ refuses (plain (unlock 0x4028400000000001 36028797018963968)) 1 0 14 100
+      ∷ refuses (plain (unlock 0x28400100000001 7)) 1 0 14 100
+      ∷ refuses (plain (unlock 0x402bc0000000000f 1)) 2 0 14 100
+      ∷ refuses (plain (unlock 0x4029400000000005 1)) 3 1 14 100
+      ∷ refuses (plain (unlock 0x402a000000000008 1)) 4 2 14 100
+      ∷ refuses (plain (unlock 0x4028400000000001 8)) 5 0 14 100
+      ∷ refuses (plain (unlock 0x4028000000000000 1)) 9 0 14 100
+      ∷ refuses (plain (unlock 0x402b00000000000c 1)) 9 0 14 100
+      -- revoke
+      ∷ refuses (plain (revoke 0x4028000000000000 4)) 1 0 14 100
+      ∷ refuses (plain (revoke 0x28000000000001 0)) 1 0 14 100
+      ∷ refuses (plain (revoke 0x402bc0000000000f 0)) 2 0 14 100
+      ∷ refuses (plain (revoke 0x4029800000000006 0)) 3 2 14 100
+      ∷ refuses (plain (revoke 0x402a000000000008 0)) 4 2 14 100
+      ∷ refuses (plain (revoke 0x402b00000000000c 0)) 6 0 14 100
+      ∷ [];
+  left = handed;
+}
+
+-- the same table: what is granted there, with entries that no reset leaves
+abbrev handedOn : Session
+handedOn = record {
+  memory = 64;
+  state = known 1 2 14 100;
+  table = handed;
+  rows =
+      -- drops: a climb to a dead entry, a dead entry, one with no older parent, a climb that meets 0; under a lock and after it
+      grants (plain (release 0x402a000000000008)) [] 1 14 100 nothing
+      ∷ grants (plain (release 0x4029c00000000007)) [] 1 14 100 nothing
+      ∷ grants (plain (release 0x402a80000000000a)) [] 1 14 100 nothing
+      ∷ grants (plain (release 0x402b00000000000c)) [] 1 14 100 nothing
+      ∷ grants (plain (release 0x4028800000000002)) [] 0 14 100 nothing
+      ∷ grants (plain (lock 0x402b40000000000d 36028797018963967)) [] 0 14 100 nothing
+      ∷ grants (plain (unlock 0x4028800000000002 7)) [] 0 14 100 nothing
+      ∷ grants (plain (release 0x4028800000000002)) [] 1 14 100 nothing
+      ∷ grants (plain (release 0x402b80000000000e)) [] 1 14 100 nothing
+      -- at 65,534; user and Lockable of part, rest and merged; a revoke makes Lockable, and unlocks
+      ∷ grants (plain (executeOnly 0x402a400000000009 1)) (0x490300000000000f ∷ []) 0 15 101 nothing
+      ∷ grants (plain (create 0x4028c00000000003 0 3 18446744073709551615 1 1)) (0x7300400000000002 ∷ 0x4839400000000003 ∷ []) 0 2 103 nothing
+      ∷ grants (plain (merge 0x4839400000000003 0x4029000000000004 0 2)) (0xb187000000030000 ∷ []) 0 2 104 nothing
+      ∷ grants (over (200 ∷ []) (access writing 0xb18700000003000c 0)) [] 0 2 104 (store 47 (200 ∷ []))
+      ∷ refuses (plain (lock 0xb187000000030000 1)) 7 0 2 104
+      ∷ grants (plain (revoke 0x4028400000000001 0)) (0x3269000100000000 ∷ []) 0 2 105 (store 16 (zeros 16))
+      ∷ [];
+  left =
+      0x200000000000000200000000000000000000000000000000017a00a00000000a
+      ∷ 0x200000020000000200000000000000000000000000000000003ac9a400000068
+      ∷ 0x20000004000000006000000000000000003fffffffffffffffc8cc0100000065
+      ∷ 0x2000000460000001a00000000000000000000000000000000190c61c00000067
+      ∷ 0
+      ∷ 0x200000000000000000002000000000000000000000000000003a00a50000000e
+      ∷ 0x400000000805280000000000a00000008000200000000000003800a60000001e
+      ∷ 0
+      ∷ 0
+      ∷ 0x400000040805180000000000600000011fffe00000000000000800a900000021
+      ∷ 0
+      ∷ 0x600000000000000000000000000000000000000000000000000000ab00000000
+      ∷ 0
+      ∷ 0x200000070000000100001fffffffffffffc0000000000000003e00ad00000010
+      ∷ 0x200000060000000100000000000000000000000000000000003a00ae00000011
+      ∷ 0x4000000408054800000000012000000100002000000000000008240c00000064
+      ∷ [];
+}
+
+-- new numbers: round from the table's end to 1, never 0, the last one given at the end of the round
+abbrev goingRound : Session
+goingRound = record {
+  memory = 8;
+  state = known 3 4 3 9;
+  table =
+      0
+      ∷ 0
+      ∷ 0
+      ∷ 0x200000000000000100000000000000000000000000000000003a00a300000008
+      ∷ [];
+  rows =
+      grants (plain (create 0x4028c00000000003 0 8 0 7 0)) (0x1084400100000000 ∷ []) 0 1 10 nothing
+      ∷ grants (plain (derive 0x1084400100000000 0 2 7 0)) (0x3cfe800200000000 ∷ []) 0 2 11 nothing
+      ∷ grants (plain (executeOnly 0x1084400100000000 0)) (0x2732c00300000000 ∷ []) 0 3 12 nothing
+      ∷ refuses (plain (derive 0x1084400100000000 0 2 7 0)) 10 0 3 12
+      ∷ refuses (plain (executeOnly 0x1084400100000000 0)) 10 0 3 12
+      ∷ grants (plain (release 0x2732c00300000000)) [] 1 3 12 nothing
+      ∷ grants (plain (executeOnly 0x1084400100000000 0)) (0x2e2d400300000000 ∷ []) 0 3 13 nothing
+      ∷ [];
+  left =
+      0
+      ∷ 0x200000000000000100004000000000000000000000000000003a421100000009
+      ∷ 0x400000000a108800000000002000000040002000000000000038f3fa0000000a
+      ∷ 0x400000000a108800000000002000000100002000000000000008b8b50000000c
+      ∷ [];
+}
+
+-- the last nonces: two are too many, one is left, none is left
+abbrev lastNonces : Session
+lastNonces = record {
+  memory = 16;
+  state = known 5 6 0 4294967295;
+  table =
+      0x200000000000000100000000000000000000000000000000003a00a000000008
+      ∷ 0x200000010000000100000000000000000000000000000000003a00a100000007
+      ∷ 0
+      ∷ 0
+      ∷ [];
+  rows =
+      refuses (plain (create 0x4028000000000000 0 4 0 7 0)) 11 0 0 4294967295
+      ∷ grants (plain (create 0x4028400000000001 0 8 0 7 0)) (0x28b4400200000000 ∷ []) 0 2 4294967296 nothing
+      ∷ refuses (plain (create 0x4028000000000000 0 8 0 7 0)) 11 0 2 4294967296
+      ∷ refuses (plain (merge 0x4028000000000000 0x28b4400200000000 0 0)) 11 0 2 4294967296
+      ∷ refuses (plain (derive 0x28b4400200000000 0 7 7 0)) 11 0 2 4294967296
+      ∷ refuses (plain (executeOnly 0x28b4400200000000 0)) 11 0 2 4294967296
+      ∷ refuses (plain (revoke 0x28b4400200000000 0)) 11 0 2 4294967296
+      ∷ grants (plain (clone 0x28b4400200000000)) [] 0 2 4294967296 nothing
+      ∷ grants (plain (lock 0x28b4400200000000 1)) [] 0 2 4294967296 nothing
+      ∷ grants (over (200 ∷ 201 ∷ 202 ∷ 203 ∷ 204 ∷ 205 ∷ 206 ∷ 207 ∷ []) (access writing 0x28b4400200000000 1)) [] 0 2 4294967296 (store 8 (200 ∷ 201 ∷ 202 ∷ 203 ∷ 204 ∷ 205 ∷ 206 ∷ 207 ∷ []))
+      ∷ grants (plain (unlock 0x28b4400200000000 1)) [] 0 2 4294967296 nothing
+      ∷ grants (plain (release 0x28b4400200000000)) [] 1 2 4294967296 nothing
+      ∷ grants (plain (reset 1 1 4294967295)) [] 0 0 4294967295 nothing
+      ∷ [];
+  left =
+      0x200000000000000200000000000000000000000000000000003a000000000000
+      ∷ 0
+      ∷ 0
+      ∷ 0
+      ∷ [];
+}
+
+-- a revoke that passes over a nonce, with which the old tag would come back; and one that has no other nonce left
+abbrev passedOver : Session
+passedOver = record {
+  memory = 8;
+  state = known 0 0 0 9;
+  table =
+      0x200000000000000100000000000000000000000000000000003a000000000001
+      ∷ 0x200000008000000080000000000000000000000000000000003adf0200000002
+      ∷ [];
+  rows =
+      grants (plain (revoke 0x37c0800100000000 0)) (0x922c00100000000 ∷ []) 0 0 11 (store 4 (zeros 4))
+      ∷ [];
+  left =
+      0x200000000000000100000000000000000000000000000000003a000000000001
+      ∷ 0x200000008000000080000000000000000000000000000000003a248b0000000a
+      ∷ [];
+}
+
+-- the last nonce would bring the old tag back: no nonce is left
+abbrev noneLeft : Session
+noneLeft = record {
+  memory = 8;
+  state = known 0 0 0 4294967295;
+  table =
+      0x200000000000000100000000000000000000000000000000003a000000000001
+      ∷ 0x200000008000000080000000000000000000000000000000003a67e600000002
+      ∷ [];
+  rows =
+      refuses (plain (revoke 0x19f9800100000000 0)) 11 0 0 4294967295
+      ∷ [];
+  left =
+      0x200000000000000100000000000000000000000000000000003a000000000001
+      ∷ 0x200000008000000080000000000000000000000000000000003a67e600000002
+      ∷ [];
+}
+
+-- sizes and settings at their limits, over a table of zeros: 2 tells that place 1 was passed
+abbrev pub limits : List Row
+limits =
+    limit 0 64 0 0 (plain (reset 0 0 1)) 1
+    ∷ limit 1 64 0 0 (plain (reset 0 0 1)) 0
+    ∷ limit 16777216 64 0 0 (plain (reset 0 0 1)) 0
+    ∷ limit 16777217 64 0 0 (plain (reset 0 0 1)) 1
+    ∷ limit 8 32 0 0 (plain (reset 0 0 1)) 1
+    ∷ limit 8 64 0 0 (plain (reset 0 0 1)) 0
+    ∷ limit 8 65 0 0 (plain (reset 0 0 1)) 1
+    ∷ limit 8 32768 0 0 (plain (reset 0 0 1)) 0
+    ∷ limit 8 32800 0 0 (plain (reset 0 0 1)) 1
+    ∷ limit 8 64 0 0 (plain (reset 0 0 0)) 1
+    ∷ limit 8 64 0 0 (plain (reset 0 0 1)) 0
+    ∷ limit 8 64 0 0 (plain (reset 0 0 4294967295)) 0
+    ∷ limit 8 64 0 0 (plain (reset 0 0 4294967296)) 1
+    ∷ limit 8 64 1 1 (plain (clone 0)) 2
+    ∷ limit 8 64 2 1 (plain (clone 0)) 1
+    ∷ limit 8 64 0 0 (plain (clone 0)) 1
+    ∷ limit 8 64 0 4294967296 (plain (clone 0)) 2
+    ∷ limit 8 64 0 4294967297 (plain (clone 0)) 1
+    ∷ limit 8 64 0 1 (over (zeros 1) (access reading 0 0)) 2
+    ∷ limit 8 64 0 1 (over (zeros 4096) (access reading 0 0)) 2
+    ∷ limit 8 64 0 1 (over (zeros 4097) (access reading 0 0)) 1
+    ∷ limit 8 64 2 1 (over (zeros 1) (access writing 0 0)) 1
+    ∷ limit 8 64 2 1 (plain (create 0 0 1 0 0 0)) 1
+    ∷ limit 8 64 2 1 (plain (merge 0 0 0 0)) 1
+    ∷ limit 8 64 2 1 (plain (derive 0 0 1 0 0)) 1
+    ∷ limit 8 64 2 1 (plain (executeOnly 0 0)) 1
+    ∷ limit 8 64 2 1 (plain (release 0)) 1
+    ∷ limit 8 64 2 1 (plain (lock 0 1)) 1
+    ∷ limit 8 64 2 1 (plain (unlock 0 1)) 1
+    ∷ limit 8 64 2 1 (plain (revoke 0 0)) 1
+    ∷ []
+
+abbrev pub sessions : List Session
+sessions = fromReset ∷ handedOver ∷ handedOn ∷ goingRound ∷ lastNonces ∷ passedOver ∷ noneLeft ∷ []
+
+-- bytes that are written, read and fetched through the root of 8 bytes
+abbrev root8 : List ℕ
+root8 = 0x200000000000000100000000000000000000000000000000003a000000000000 ∷ 0 ∷ []
+
+abbrev pub bytesMoved : List Row
+bytesMoved =
+    moves (known 0 0 0 1) root8 (1 ∷ 2 ∷ 3 ∷ 4 ∷ 5 ∷ 6 ∷ 7 ∷ 8 ∷ [])
+    (over (201 ∷ 202 ∷ 203 ∷ []) (access writing 2 0) ∷ over (zeros 4) (access reading 1 0) ∷ [])
+    (201 ∷ 202 ∷ 203 ∷ 2 ∷ 201 ∷ 202 ∷ 203 ∷ [])
+    (1 ∷ 2 ∷ 201 ∷ 202 ∷ 203 ∷ 6 ∷ 7 ∷ 8 ∷ [])
+    ∷ moves (known 0 0 0 1) root8 (1 ∷ 2 ∷ 201 ∷ 202 ∷ 203 ∷ 6 ∷ 7 ∷ 8 ∷ [])
+    (over (zeros 2) (access fetching 4 0) ∷ over (9 ∷ 9 ∷ []) (access reading 7 0) ∷ [])
+    (203 ∷ 6 ∷ 9 ∷ 9 ∷ [])
+    (1 ∷ 2 ∷ 201 ∷ 202 ∷ 203 ∷ 6 ∷ 7 ∷ 8 ∷ [])
+    ∷ []

@@ -1,0 +1,48 @@
+-- "Checks run down this table": the refusals that each request can come to, in their order (01, "Where a request stops").
+-- Assumes nothing.
+use mathlib.Core.Path.{_≡_}
+use mathlib.Core.Logic.{_⊎_}
+use mathlib.Core.Bool.{cond}
+use mathlib.Core.List.{List, [], _∷_, List·Memᴰ}
+use Prim.Native.Nat.{ℕ}
+use lib.Dec.{eqb}
+use Rattle.machine.specs.Parts.{State}
+use Rattle.machine.specs.Requests.{access, Call, clone, create, derive, executeOnly, lock, merge, release, Request, reset, revoke, taskOf, unlock}
+use Rattle.machine.specs.Steps.{answer, Machine}
+use Rattle.machine.specs.Stops.{Check, checks, refusalNumber}
+
+-- the rows of 01's table, by their numbers, that each request is judged by
+abbrev pub row : Request → List ℕ
+row (reset k0 k1 ν) = 1 ∷ []
+row (access w k u) = 1 ∷ 2 ∷ 3 ∷ 4 ∷ 5 ∷ 7 ∷ 8 ∷ []
+row (create k u l x p c) = 1 ∷ 2 ∷ 3 ∷ 4 ∷ 5 ∷ 6 ∷ 7 ∷ 8 ∷ 9 ∷ 10 ∷ 11 ∷ []
+row (merge j k u c) = 1 ∷ 2 ∷ 3 ∷ 4 ∷ 5 ∷ 2 ∷ 3 ∷ 4 ∷ 5 ∷ 6 ∷ 8 ∷ 9 ∷ 11 ∷ []
+row (derive k o l p c) = 1 ∷ 2 ∷ 3 ∷ 4 ∷ 7 ∷ 8 ∷ 9 ∷ 10 ∷ 11 ∷ []
+row (executeOnly k c) = 1 ∷ 2 ∷ 3 ∷ 4 ∷ 7 ∷ 9 ∷ 10 ∷ 11 ∷ []
+row (clone k) = 1 ∷ 2 ∷ 3 ∷ 4 ∷ 9 ∷ []
+row (release k) = 1 ∷ 2 ∷ 3 ∷ 9 ∷ []
+row (lock k u) = 1 ∷ 2 ∷ 3 ∷ 4 ∷ 5 ∷ 7 ∷ []
+row (unlock k u) = 1 ∷ 2 ∷ 3 ∷ 4 ∷ 5 ∷ 9 ∷ []
+row (revoke k c) = 1 ∷ 2 ∷ 3 ∷ 4 ∷ 6 ∷ 11 ∷ []
+
+-- place 11 is judged for every request, after all others: a row with 11 at its end
+abbrev pub ended : List ℕ → List ℕ
+ended [] = 11 ∷ []
+ended (n ∷ ns) = cond (eqb n 11) (n ∷ ns) (n ∷ ended ns)
+
+-- the refusals' numbers down a list of checks, one for several in a row that have the same; r is the number before them
+abbrev pub numbers : (r : ℕ) → List Check → List ℕ
+numbers r [] = []
+numbers r (c ∷ cs) = cond (eqb (refusalNumber (c .refusal)) r) (numbers r cs) (refusalNumber (c .refusal) ∷ numbers (refusalNumber (c .refusal)) cs)
+
+-- the checks of a request are those of its row, in this order
+unfoldable pub Ordered : Type 0
+Ordered = (m : ℕ) (s : State) (t : List ℕ) (q : Request) (b : List ℕ) → numbers 0 (checks m s t q b) ≡ ended (row q)
+
+-- and every request is granted (0) or refused with a number of its row: one that issues nothing never comes to 11
+unfoldable pub Among : Type 0
+Among = (σ : Machine) (q : Call) → List·Memᴰ (answer σ q .reply .refusal) (0 ∷ row (q .request))
+
+-- a request that is not judged for the lock carries no task
+unfoldable pub Tasks : Type 0
+Tasks = (q : Request) → (taskOf q ≡ 0) ⊎ List·Memᴰ 5 (row q)
