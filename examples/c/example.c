@@ -2,6 +2,7 @@
  * A hook station's card writes a record of twelve bytes, the weigher's task holds it, and another card tries to read it. From the
  * repository's root:
  *
+ *     ./build-library
  *     cc -Iinclude examples/c/example.c -Ltarget/staticlib -lnorthbridge -o target/example && target/example
  */
 #include "northbridge.h"

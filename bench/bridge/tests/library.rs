@@ -1,12 +1,19 @@
-//! Where the library is looked for: NORTHBRIDGE_LIBRARY, from where cargo was started.
+//! Where the library is looked for: NORTHBRIDGE_LIBRARY, from where cargo was started. And what
+//! build-library says while it is proved.
 
-use std::path::Path;
+use std::os::unix::fs::PermissionsExt;
+use std::path::{Path, PathBuf};
 use std::process::{Command, Output};
 use std::{env, fs, process};
 
+/// A new folder for a test.
+fn folder(name: &str) -> PathBuf {
+    env::temp_dir().join(format!("northbridge-{}-{name}", process::id()))
+}
+
 /// Builds the bridge anew, started in a folder, with the variable set so.
 fn build(started: &Path, named: &str) -> Output {
-    let target = env::temp_dir().join(format!("northbridge-{}-{}", process::id(), named.len()));
+    let target = folder(&named.replace('/', "-"));
     let manifest = Path::new(env!("CARGO_MANIFEST_DIR")).join("Cargo.toml");
     let mut cargo = Command::new(env!("CARGO"));
     cargo.args(["build", "--offline", "--manifest-path"]).arg(manifest);
@@ -33,4 +40,57 @@ fn a_folder_without_the_library_is_told_with_the_variable() {
     let expected = "NORTHBRIDGE_LIBRARY is 'no/such/folder', and there is no libnorthbridge.a in ";
     assert!(told.contains(expected), "{told}");
     assert!(told.contains("expected the folder in which build-library left it"), "{told}");
+}
+
+/// Stands for the toolchain: says what it is asked for, and fails at the crate that FAIL names.
+const TOOL: &str = r#"#!/bin/sh
+command=$1
+shift
+for name in "$@"; do
+    echo "fn $name::one: proved"
+    if [ "$command $name" = "check ${FAIL:-}" ]; then
+        echo "crates/$name/proofs/Laws.antt:1:1: error"
+        echo "rt: $name NOT PROVED (exit 1, 3 s)"
+        exit 1
+    fi
+    echo "rt: $command $name"
+done
+echo "rt: bits proved (unchanged since it was last proved)"
+"#;
+
+/// Runs build-library over three crates, of which northbridge does not stand on the second.
+fn build_library(name: &str, fails: &str) -> (bool, String, String) {
+    let root = folder(name);
+    fs::create_dir_all(root.join("bin")).expect("a new folder");
+    let script = Path::new(env!("CARGO_MANIFEST_DIR")).join("../../build-library");
+    fs::copy(script, root.join("build-library")).expect("a copy of build-library");
+    fs::write(root.join("crates.txt"), "bits:\nuses: bits\nlocks: bits\nnorthbridge: locks\n")
+        .expect("a list of crates");
+    let tool = root.join("bin/rt");
+    fs::write(&tool, TOOL).expect("a tool");
+    fs::set_permissions(&tool, fs::Permissions::from_mode(0o755)).expect("a tool to run");
+    let path = env::var("PATH").expect("a path to the shell's tools");
+    let mut command = Command::new(root.join("build-library"));
+    command.env("PATH", format!("{}:{path}", root.join("bin").display())).env("FAIL", fails);
+    let ended = command.output().expect("a shell");
+    let _ = fs::remove_dir_all(root);
+    let text = |bytes| String::from_utf8(bytes).expect("text");
+    (ended.status.success(), text(ended.stdout), text(ended.stderr))
+}
+
+#[test]
+fn each_crate_is_told_when_it_is_proved() {
+    let (succeeded, out, error) = build_library("told", "");
+    let expected = "build-library: proves bits locks northbridge\n\
+                    rt: check locks\nrt: staticlib northbridge\n";
+    assert_eq!((succeeded, out.as_str(), error.as_str()), (true, expected, ""));
+}
+
+#[test]
+fn a_crate_that_is_not_proved_is_told_with_its_error() {
+    let (succeeded, out, error) = build_library("failed", "locks");
+    assert!(!succeeded);
+    assert!(out.ends_with("rt: locks NOT PROVED (exit 1, 3 s)\n"), "{out}");
+    assert!(error.starts_with("crates/locks/proofs/Laws.antt:1:1: error\n"), "{error}");
+    assert!(error.contains("build-library: rt check locks failed"), "{error}");
 }
