@@ -266,7 +266,7 @@ static inline struct northbridge_answer northbridge_write(
 {
     struct northbridge_request request = northbridge_request_of(NORTHBRIDGE_WRITE, address);
     request.word[NORTHBRIDGE_TASK] = task;
-    return northbridge_ask(bridge, &request, (void *)bytes, length);
+    return northbridge_ask(bridge, &request, (void *)(uintptr_t)bytes, length);
 }
 
 /* As read, for instructions. */

@@ -12,7 +12,7 @@ pub enum Place {
 }
 
 /// Why a request was refused.
-#[derive(Clone, Copy, Debug, PartialEq, Eq)]
+#[derive(Clone, Copy, PartialEq, Eq)]
 pub enum Refusal {
     Request,
     Entry,
@@ -147,6 +147,13 @@ impl fmt::Display for Refusal {
     fn fmt(&self, f: &mut fmt::Formatter<'_>) -> fmt::Result {
         write!(f, "refusal {}, {}", self.number(), refusal_words(self.number()))?;
         self.place().map_or(Ok(()), |place| write!(f, ": {}", place.words()))
+    }
+}
+
+/// The same, since this is what a `main` that returns it says.
+impl fmt::Debug for Refusal {
+    fn fmt(&self, f: &mut fmt::Formatter<'_>) -> fmt::Result {
+        fmt::Display::fmt(self, f)
     }
 }
 

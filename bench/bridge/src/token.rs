@@ -5,7 +5,7 @@ use std::fmt;
 
 /// A token, as the 64-bit word that it is: any word is some token's. With an offset in it, it is an
 /// address.
-#[derive(Clone, Copy, Debug, Default, PartialEq, Eq, PartialOrd, Ord, Hash)]
+#[derive(Clone, Copy, Default, PartialEq, Eq, PartialOrd, Ord, Hash)]
 #[repr(transparent)]
 pub struct Token(pub u64);
 
@@ -25,7 +25,7 @@ pub enum Encoding {
 }
 
 /// The token's encoding has no room for the offset.
-#[derive(Clone, Copy, Debug, PartialEq, Eq)]
+#[derive(Clone, Copy, PartialEq, Eq)]
 pub struct TooFar {
     pub token: Token,
     pub offset: u64,
@@ -91,6 +91,19 @@ impl fmt::Display for TooFar {
     fn fmt(&self, f: &mut fmt::Formatter<'_>) -> fmt::Result {
         let TooFar { token, offset } = self;
         write!(f, "the token {token} has no room for the offset {offset}")
+    }
+}
+
+impl fmt::Debug for Token {
+    fn fmt(&self, f: &mut fmt::Formatter<'_>) -> fmt::Result {
+        write!(f, "Token({:#018x})", self.0)
+    }
+}
+
+/// The same, since this is what a `main` that returns it says.
+impl fmt::Debug for TooFar {
+    fn fmt(&self, f: &mut fmt::Formatter<'_>) -> fmt::Result {
+        fmt::Display::fmt(self, f)
     }
 }
 

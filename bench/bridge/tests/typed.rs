@@ -47,6 +47,7 @@ fn the_fields_of_a_token() {
         assert_eq!(token.encoding(), encoding);
         assert_eq!((token.tag(), token.number(), token.offset()), (0x1234, 5, offset));
         assert_eq!(token.to_string(), format!("{word:016x}"));
+        assert_eq!(format!("{token:?}"), format!("Token(0x{token})"));
     }
 }
 
@@ -93,6 +94,7 @@ fn a_refusal_has_its_number_its_place_and_a_text() {
     assert_eq!(text(Refusal::Dead(Place::Ancestor)), "refusal 4, dead line: an ancestor");
     let error: Box<dyn std::error::Error> = Refusal::Lock.into();
     assert_eq!(error.to_string(), "refusal 5, locked for another task");
+    assert_eq!(format!("{error:?}"), "refusal 5, locked for another task");
 }
 
 /// Every argument has a value of its own, and stands in its word; words that an operation does not
