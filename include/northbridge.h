@@ -163,55 +163,51 @@ struct northbridge_answer {
     uint64_t dropped;
 };
 
-/* The words of a request, by enum northbridge_request_word. */
+/* A request, as northbridge_serve takes it. */
 struct northbridge_request {
-    uint64_t word[NORTHBRIDGE_REQUEST_SIZE / 8];
+    uint8_t bytes[NORTHBRIDGE_REQUEST_SIZE];
 };
 
 /* A machine over a table and a memory, still to be reset. */
 static inline struct northbridge northbridge_over(void *table, size_t table_length, void *memory, size_t memory_length)
 {
-    struct northbridge bridge;
-    size_t i;
-    for (i = 0; i < sizeof bridge.state; i++) {
-        bridge.state[i] = 0;
-    }
-    bridge.table = (uint8_t *)table;
-    bridge.table_length = table_length;
-    bridge.memory = (uint8_t *)memory;
-    bridge.memory_length = memory_length;
+    struct northbridge bridge = {{0}, (uint8_t *)table, table_length, (uint8_t *)memory, memory_length};
     return bridge;
 }
 
-/* Word i of a slice, the low byte first. */
+/* Word i of a slice, the low byte first. Byte by byte, without a loop, compilers make it one load or one store. */
 static inline uint64_t northbridge_word(const uint8_t *slice, size_t i)
 {
-    uint64_t word = 0;
-    size_t k;
-    for (k = 8; k > 0; k--) {
-        word = word << 8 | slice[8 * i + k - 1];
-    }
-    return word;
+    const uint8_t *bytes = slice + 8 * i;
+    return (uint64_t)bytes[0] | (uint64_t)bytes[1] << 8 | (uint64_t)bytes[2] << 16 | (uint64_t)bytes[3] << 24
+        | (uint64_t)bytes[4] << 32 | (uint64_t)bytes[5] << 40 | (uint64_t)bytes[6] << 48 | (uint64_t)bytes[7] << 56;
 }
 
 static inline void northbridge_put_word(uint8_t *slice, size_t i, uint64_t word)
 {
-    size_t k;
-    for (k = 0; k < 8; k++) {
-        slice[8 * i + k] = (uint8_t)(word >> 8 * k);
-    }
+    uint8_t *bytes = slice + 8 * i;
+    bytes[0] = (uint8_t)word;
+    bytes[1] = (uint8_t)(word >> 8);
+    bytes[2] = (uint8_t)(word >> 16);
+    bytes[3] = (uint8_t)(word >> 24);
+    bytes[4] = (uint8_t)(word >> 32);
+    bytes[5] = (uint8_t)(word >> 40);
+    bytes[6] = (uint8_t)(word >> 48);
+    bytes[7] = (uint8_t)(word >> 56);
+}
+
+/* A word of a request, by enum northbridge_request_word, is set. */
+static inline void northbridge_set(struct northbridge_request *request, size_t word, uint64_t value)
+{
+    northbridge_put_word(request->bytes, word, value);
 }
 
 /* A request of an operation and a token; its other words are zero. */
 static inline struct northbridge_request northbridge_request_of(uint64_t operation, uint64_t token)
 {
-    struct northbridge_request request;
-    size_t i;
-    for (i = 0; i < sizeof request.word / sizeof request.word[0]; i++) {
-        request.word[i] = 0;
-    }
-    request.word[NORTHBRIDGE_OPERATION] = operation;
-    request.word[NORTHBRIDGE_TOKEN] = token;
+    struct northbridge_request request = {{0}};
+    northbridge_set(&request, NORTHBRIDGE_OPERATION, operation);
+    northbridge_set(&request, NORTHBRIDGE_TOKEN, token);
     return request;
 }
 
@@ -219,17 +215,11 @@ static inline struct northbridge_request northbridge_request_of(uint64_t operati
 static inline struct northbridge_answer northbridge_ask(
     struct northbridge *bridge, const struct northbridge_request *request, void *buffer, size_t length)
 {
-    uint8_t asked[NORTHBRIDGE_REQUEST_SIZE];
     uint8_t told[NORTHBRIDGE_ANSWER_SIZE];
-    uint8_t none[1]; /* what is not lent is the slice of no bytes that begins here */
+    uint8_t none[1] = {0}; /* what is not lent is the slice of no bytes that begins here */
     struct northbridge_answer answer;
-    size_t i;
-    none[0] = 0;
-    for (i = 0; i < sizeof asked / 8; i++) {
-        northbridge_put_word(asked, i, request->word[i]);
-    }
     (void)northbridge_serve(
-        asked, sizeof asked, bridge->state, sizeof bridge->state,
+        request->bytes, sizeof request->bytes, bridge->state, sizeof bridge->state,
         bridge->table ? bridge->table : none, bridge->table ? bridge->table_length : 0,
         bridge->memory ? bridge->memory : none, bridge->memory ? bridge->memory_length : 0,
         buffer ? (uint8_t *)buffer : none, buffer ? length : 0,
@@ -246,8 +236,8 @@ static inline struct northbridge_answer northbridge_ask(
 static inline struct northbridge_answer northbridge_reset(struct northbridge *bridge, uint64_t key0, uint64_t key1, uint64_t first_nonce)
 {
     struct northbridge_request request = northbridge_request_of(NORTHBRIDGE_RESET, key0);
-    request.word[NORTHBRIDGE_SECOND] = key1;
-    request.word[NORTHBRIDGE_TASK] = first_nonce;
+    northbridge_set(&request, NORTHBRIDGE_SECOND, key1);
+    northbridge_set(&request, NORTHBRIDGE_TASK, first_nonce);
     return northbridge_ask(bridge, &request, NULL, 0);
 }
 
@@ -256,7 +246,7 @@ static inline struct northbridge_answer northbridge_read(
     struct northbridge *bridge, uint64_t address, uint64_t task, void *buffer, size_t length)
 {
     struct northbridge_request request = northbridge_request_of(NORTHBRIDGE_READ, address);
-    request.word[NORTHBRIDGE_TASK] = task;
+    northbridge_set(&request, NORTHBRIDGE_TASK, task);
     return northbridge_ask(bridge, &request, buffer, length);
 }
 
@@ -265,7 +255,7 @@ static inline struct northbridge_answer northbridge_write(
     struct northbridge *bridge, uint64_t address, uint64_t task, const void *bytes, size_t length)
 {
     struct northbridge_request request = northbridge_request_of(NORTHBRIDGE_WRITE, address);
-    request.word[NORTHBRIDGE_TASK] = task;
+    northbridge_set(&request, NORTHBRIDGE_TASK, task);
     return northbridge_ask(bridge, &request, (void *)(uintptr_t)bytes, length);
 }
 
@@ -274,7 +264,7 @@ static inline struct northbridge_answer northbridge_fetch(
     struct northbridge *bridge, uint64_t address, uint64_t task, void *buffer, size_t length)
 {
     struct northbridge_request request = northbridge_request_of(NORTHBRIDGE_FETCH, address);
-    request.word[NORTHBRIDGE_TASK] = task;
+    northbridge_set(&request, NORTHBRIDGE_TASK, task);
     return northbridge_ask(bridge, &request, buffer, length);
 }
 
@@ -283,11 +273,11 @@ static inline struct northbridge_answer northbridge_create(
     struct northbridge *bridge, uint64_t token, uint64_t task, uint64_t length, uint64_t user, uint64_t permissions, uint64_t encoding)
 {
     struct northbridge_request request = northbridge_request_of(NORTHBRIDGE_CREATE, token);
-    request.word[NORTHBRIDGE_TASK] = task;
-    request.word[NORTHBRIDGE_LENGTH] = length;
-    request.word[NORTHBRIDGE_USER] = user;
-    request.word[NORTHBRIDGE_PERMISSIONS] = permissions;
-    request.word[NORTHBRIDGE_ENCODING] = encoding;
+    northbridge_set(&request, NORTHBRIDGE_TASK, task);
+    northbridge_set(&request, NORTHBRIDGE_LENGTH, length);
+    northbridge_set(&request, NORTHBRIDGE_USER, user);
+    northbridge_set(&request, NORTHBRIDGE_PERMISSIONS, permissions);
+    northbridge_set(&request, NORTHBRIDGE_ENCODING, encoding);
     return northbridge_ask(bridge, &request, NULL, 0);
 }
 
@@ -296,9 +286,9 @@ static inline struct northbridge_answer northbridge_merge(
     struct northbridge *bridge, uint64_t token, uint64_t second, uint64_t task, uint64_t encoding)
 {
     struct northbridge_request request = northbridge_request_of(NORTHBRIDGE_MERGE, token);
-    request.word[NORTHBRIDGE_SECOND] = second;
-    request.word[NORTHBRIDGE_TASK] = task;
-    request.word[NORTHBRIDGE_ENCODING] = encoding;
+    northbridge_set(&request, NORTHBRIDGE_SECOND, second);
+    northbridge_set(&request, NORTHBRIDGE_TASK, task);
+    northbridge_set(&request, NORTHBRIDGE_ENCODING, encoding);
     return northbridge_ask(bridge, &request, NULL, 0);
 }
 
@@ -307,10 +297,10 @@ static inline struct northbridge_answer northbridge_derive(
     struct northbridge *bridge, uint64_t token, uint64_t offset, uint64_t length, uint64_t permissions, uint64_t encoding)
 {
     struct northbridge_request request = northbridge_request_of(NORTHBRIDGE_DERIVE, token);
-    request.word[NORTHBRIDGE_SECOND] = offset;
-    request.word[NORTHBRIDGE_LENGTH] = length;
-    request.word[NORTHBRIDGE_PERMISSIONS] = permissions;
-    request.word[NORTHBRIDGE_ENCODING] = encoding;
+    northbridge_set(&request, NORTHBRIDGE_SECOND, offset);
+    northbridge_set(&request, NORTHBRIDGE_LENGTH, length);
+    northbridge_set(&request, NORTHBRIDGE_PERMISSIONS, permissions);
+    northbridge_set(&request, NORTHBRIDGE_ENCODING, encoding);
     return northbridge_ask(bridge, &request, NULL, 0);
 }
 
@@ -318,7 +308,7 @@ static inline struct northbridge_answer northbridge_derive(
 static inline struct northbridge_answer northbridge_execute_only(struct northbridge *bridge, uint64_t token, uint64_t encoding)
 {
     struct northbridge_request request = northbridge_request_of(NORTHBRIDGE_EXECUTE_ONLY, token);
-    request.word[NORTHBRIDGE_ENCODING] = encoding;
+    northbridge_set(&request, NORTHBRIDGE_ENCODING, encoding);
     return northbridge_ask(bridge, &request, NULL, 0);
 }
 
@@ -340,14 +330,14 @@ static inline struct northbridge_answer northbridge_drop(struct northbridge *bri
 static inline struct northbridge_answer northbridge_lock(struct northbridge *bridge, uint64_t token, uint64_t task)
 {
     struct northbridge_request request = northbridge_request_of(NORTHBRIDGE_LOCK, token);
-    request.word[NORTHBRIDGE_TASK] = task;
+    northbridge_set(&request, NORTHBRIDGE_TASK, task);
     return northbridge_ask(bridge, &request, NULL, 0);
 }
 
 static inline struct northbridge_answer northbridge_unlock(struct northbridge *bridge, uint64_t token, uint64_t task)
 {
     struct northbridge_request request = northbridge_request_of(NORTHBRIDGE_UNLOCK, token);
-    request.word[NORTHBRIDGE_TASK] = task;
+    northbridge_set(&request, NORTHBRIDGE_TASK, task);
     return northbridge_ask(bridge, &request, NULL, 0);
 }
 
@@ -355,7 +345,7 @@ static inline struct northbridge_answer northbridge_unlock(struct northbridge *b
 static inline struct northbridge_answer northbridge_revoke(struct northbridge *bridge, uint64_t token, uint64_t encoding)
 {
     struct northbridge_request request = northbridge_request_of(NORTHBRIDGE_REVOKE, token);
-    request.word[NORTHBRIDGE_ENCODING] = encoding;
+    northbridge_set(&request, NORTHBRIDGE_ENCODING, encoding);
     return northbridge_ask(bridge, &request, NULL, 0);
 }
 

@@ -137,8 +137,8 @@ static void refused(void)
     uint64_t operation;
     for (operation = NORTHBRIDGE_READ; operation <= NORTHBRIDGE_REVOKE; operation++) {
         struct northbridge_request request = northbridge_request_of(operation, NORTHBRIDGE_NO_TOKEN);
-        request.word[NORTHBRIDGE_TASK] = 1;
-        request.word[NORTHBRIDGE_LENGTH] = 1;
+        northbridge_set(&request, NORTHBRIDGE_TASK, 1);
+        northbridge_set(&request, NORTHBRIDGE_LENGTH, 1);
         CHECK(northbridge_ask(&b, &request, buffer, 1).refusal != 0);
     }
     CHECK(northbridge_merge(&b, 0, NORTHBRIDGE_NO_TOKEN, 0, 0).refusal != 0);

@@ -162,7 +162,7 @@ static void locks(void)
     CHECK(northbridge_lock(&b, segment, HOLDER).refusal == 0);
     memory[3] = 9;
     request = northbridge_request_of(NORTHBRIDGE_RESET, 1); /* a reset keeps the bytes and unlocks all */
-    request.word[NORTHBRIDGE_TASK] = 1;
+    northbridge_set(&request, NORTHBRIDGE_TASK, 1);
     CHECK(northbridge_ask(&b, &request, NULL, 0).refusal == 0 && read_one(&b, 3, OTHER) == 0 && byte[0] == 9);
 }
 
