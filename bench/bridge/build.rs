@@ -8,6 +8,7 @@ use std::io::{self, BufRead, BufReader, IsTerminal, Write};
 use std::os::unix::process::parent_id;
 use std::path::{Path, PathBuf};
 use std::process::{Command, Stdio};
+use std::time::{Duration, SystemTime};
 
 const ARCHIVE: &str = "libnorthbridge.a";
 const VARIABLE: &str = "NORTHBRIDGE_LIBRARY";
@@ -49,6 +50,7 @@ fn lent(named: &OsStr) -> Result<PathBuf, Vec<String>> {
 
 /// Proves the crates, if they have changed since, and builds the library.
 fn proved() -> Result<PathBuf, Vec<String>> {
+    let started = SystemTime::now();
     let root = env::var("CARGO_MANIFEST_DIR").expect("cargo names the package's folder");
     let root = fs::canonicalize(PathBuf::from(root).join("../..")).expect("the repository's root");
     for part in ["crates", "crates.txt", "build-library"] {
@@ -56,11 +58,23 @@ fn proved() -> Result<PathBuf, Vec<String>> {
     }
     let (succeeded, mut said) = run(&root.join("build-library")).expect("a shell and a pipe");
     said.retain(|line| !line.contains(" proved ("));
-    if succeeded {
-        Ok(root.join("target/staticlib").join(ARCHIVE))
-    } else {
-        Err(said)
+    if !succeeded {
+        return Err(said);
     }
+    let archive = root.join("target/staticlib").join(ARCHIVE);
+    age(&archive, started).expect("an archive that was built");
+    Ok(archive)
+}
+
+/// Makes an archive that was built just now older than this script's start, as what it was built from
+/// is. Cargo runs the script again if a file that it names is newer.
+fn age(archive: &Path, started: SystemTime) -> io::Result<()> {
+    let older = started - Duration::from_secs(60);
+    let file = OpenOptions::new().append(true).open(archive)?;
+    if file.metadata()?.modified()? > older {
+        file.set_modified(older)?;
+    }
+    Ok(())
 }
 
 /// Runs a program, and hands on what it says line by line. It may take minutes, and cargo keeps what

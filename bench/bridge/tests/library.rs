@@ -46,6 +46,8 @@ fn a_folder_without_the_library_is_told_with_the_variable() {
 const TOOL: &str = r#"#!/bin/sh
 command=$1
 shift
+if [ "$command" = version ]; then exit 0; fi
+if [ "$command" = staticlib ]; then mkdir -p target/staticlib && echo archive >target/staticlib/libnorthbridge.a; fi
 for name in "$@"; do
     echo "fn $name::one: proved"
     if [ "$command $name" = "check ${FAIL:-}" ]; then
@@ -58,10 +60,12 @@ done
 echo "rt: bits proved (unchanged since it was last proved)"
 "#;
 
-/// Runs build-library over three crates, of which northbridge does not stand on the second.
-fn build_library(name: &str, fails: &str) -> (bool, String, String) {
+/// A repository of four crates, of which northbridge does not stand on the second.
+fn repository(name: &str) -> PathBuf {
     let root = folder(name);
     fs::create_dir_all(root.join("bin")).expect("a new folder");
+    fs::create_dir_all(root.join("crates/bits/src")).expect("a new folder");
+    fs::write(root.join("crates/bits/src/lib.rt"), "").expect("a crate");
     let script = Path::new(env!("CARGO_MANIFEST_DIR")).join("../../build-library");
     fs::copy(script, root.join("build-library")).expect("a copy of build-library");
     fs::write(root.join("crates.txt"), "bits:\nuses: bits\nlocks: bits\nnorthbridge: locks\n")
@@ -69,28 +73,48 @@ fn build_library(name: &str, fails: &str) -> (bool, String, String) {
     let tool = root.join("bin/rt");
     fs::write(&tool, TOOL).expect("a tool");
     fs::set_permissions(&tool, fs::Permissions::from_mode(0o755)).expect("a tool to run");
+    root
+}
+
+/// Runs build-library there: whether it succeeds, and what it says.
+fn build_library(root: &Path, fails: &str) -> (bool, String, String) {
     let path = env::var("PATH").expect("a path to the shell's tools");
     let mut command = Command::new(root.join("build-library"));
     command.env("PATH", format!("{}:{path}", root.join("bin").display())).env("FAIL", fails);
     let ended = command.output().expect("a shell");
-    let _ = fs::remove_dir_all(root);
     let text = |bytes| String::from_utf8(bytes).expect("text");
     (ended.status.success(), text(ended.stdout), text(ended.stderr))
 }
 
 #[test]
 fn each_crate_is_told_when_it_is_proved() {
-    let (succeeded, out, error) = build_library("told", "");
-    let expected = "build-library: proves bits locks northbridge\n\
-                    rt: check locks\nrt: staticlib northbridge\n";
-    assert_eq!((succeeded, out.as_str(), error.as_str()), (true, expected, ""));
+    let root = repository("told");
+    let proves = "build-library: proves bits locks northbridge\n\
+                  rt: check locks\nrt: staticlib northbridge\n";
+    let built =
+        "build-library: target/staticlib/libnorthbridge.a is proved and built from these crates\n";
+    let says = |expected: &str| {
+        assert_eq!(build_library(&root, ""), (true, expected.to_string(), String::new()));
+    };
+    says(proves);
+    says(built);
+    fs::write(root.join("crates/bits/src/lib.rt"), "changed").expect("a crate");
+    says(proves);
+    says(built);
+    fs::write(root.join("target/staticlib/libnorthbridge.a"), "another").expect("an archive");
+    says(proves);
+    let _ = fs::remove_dir_all(&root);
 }
 
 #[test]
 fn a_crate_that_is_not_proved_is_told_with_its_error() {
-    let (succeeded, out, error) = build_library("failed", "locks");
-    assert!(!succeeded);
-    assert!(out.ends_with("rt: locks NOT PROVED (exit 1, 3 s)\n"), "{out}");
-    assert!(error.starts_with("crates/locks/proofs/Laws.antt:1:1: error\n"), "{error}");
-    assert!(error.contains("build-library: rt check locks failed"), "{error}");
+    let root = repository("failed");
+    for _ in 0..2 {
+        let (succeeded, out, error) = build_library(&root, "locks");
+        assert!(!succeeded);
+        assert!(out.ends_with("rt: locks NOT PROVED (exit 1, 3 s)\n"), "{out}");
+        assert!(error.starts_with("crates/locks/proofs/Laws.antt:1:1: error\n"), "{error}");
+        assert!(error.contains("build-library: rt check locks failed"), "{error}");
+    }
+    let _ = fs::remove_dir_all(&root);
 }
