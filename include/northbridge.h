@@ -1,5 +1,5 @@
 /*
- * The northbridge: a capability machine over memory and tables that the caller lends.
+ * The northbridge: a capability machine over memory and tables that the caller lends. docs/USING.md says what it does.
  *
  * The library keeps nothing between two calls, allocates nothing, does no input or output, and calls nothing but memset and memmove.
  * What it returns and each byte that it leaves in the slices lent to it is fixed, whatever they hold, by the definition `exported` in
@@ -14,6 +14,9 @@
 #ifdef __cplusplus
 extern "C" {
 #endif
+
+/* The interface's version. It is raised with every change that a caller can see. */
+#define NORTHBRIDGE_VERSION 1
 
 /* Sizes in bytes. All words have 64 bits, the low byte first. */
 #define NORTHBRIDGE_REQUEST_SIZE 64
@@ -46,7 +49,7 @@ enum northbridge_request_word {
     NORTHBRIDGE_TASK = 3,
     NORTHBRIDGE_LENGTH = 4,
     NORTHBRIDGE_USER = 5,
-    NORTHBRIDGE_PERMISSIONS = 6, /* R 4, W 2, X 1, added */
+    NORTHBRIDGE_PERMISSIONS = 6, /* of enum northbridge_permission, added */
     NORTHBRIDGE_ENCODING = 7     /* of the tokens in the answer: 0 to 3 */
 };
 
@@ -64,6 +67,12 @@ enum northbridge_operation {
     NORTHBRIDGE_LOCK = 10,
     NORTHBRIDGE_UNLOCK = 11,
     NORTHBRIDGE_REVOKE = 12
+};
+
+enum northbridge_permission {
+    NORTHBRIDGE_X = 1, /* fetch */
+    NORTHBRIDGE_W = 2, /* write */
+    NORTHBRIDGE_R = 4  /* read */
 };
 
 /* The words of a state. A reset writes all four, whatever stood there; the caller hands each call what the last one left. */
@@ -110,9 +119,12 @@ enum northbridge_refusal {
  *     buffer    what a read or fetch fills and a write stores, 1 to 4,096 bytes; no other request looks at it
  *     answer    40 bytes
  *
- * What the caller must see to: no pointer is null, also where its length is 0; each slice has as many bytes as its length says; no two
- * slices overlap; and nothing else reads or writes them during the call. Nothing is asked of the bytes, nor of the lengths: any bytes and
- * any lengths have a defined answer.
+ * What the caller must see to: each slice has as many bytes as its length says; no two slices overlap; and nothing else reads or writes
+ * them during the call, except that others may read the request and a write's buffer, which are only read. Nothing is asked of the bytes,
+ * nor of the lengths: any bytes and any lengths have a defined answer.
+ *
+ * The proof is about slices, and a slice has a pointer that is not null. The compiled code does not look at a slice of length 0, so that a
+ * null pointer with length 0 is answered as an empty slice. A null pointer with another length is a slice that is not there: a fault.
  *
  * A refused request changes nothing but the answer. An operation above 12, or a request, state or answer of another length, is refusal 1;
  * an answer of another length is then left as it was.
@@ -124,6 +136,298 @@ uint64_t northbridge_serve(
     uint8_t *memory, size_t memory_length,
     uint8_t *buffer, size_t buffer_length,
     uint8_t *answer, size_t answer_length);
+
+/* ---- From C99 on, and in C++: a function for each operation. They need nothing but the declarations above. */
+#if defined(__cplusplus) || (defined(__STDC_VERSION__) && __STDC_VERSION__ >= 199901L)
+
+/*
+ * A machine: its state, and what is lent to it for the time of each call. A part whose pointer is null is not lent, whatever its length;
+ * later versions may add parts, so begin with zeros, as northbridge_over does. Reset it before all else.
+ *
+ * Keep it apart from table and memory. Do not go on with a copy and with the original: both would give the same tokens.
+ */
+struct northbridge {
+    uint8_t state[NORTHBRIDGE_STATE_SIZE];
+    uint8_t *table;
+    size_t table_length;
+    uint8_t *memory;
+    size_t memory_length;
+};
+
+/* An answer, by the names of its words. A token is 0 where the request gives none; 0 is also the token of the root. */
+struct northbridge_answer {
+    uint64_t refusal; /* 0 granted */
+    uint64_t place;
+    uint64_t first;
+    uint64_t second;
+    uint64_t dropped;
+};
+
+/* A request, as northbridge_serve takes it. */
+struct northbridge_request {
+    uint8_t bytes[NORTHBRIDGE_REQUEST_SIZE];
+};
+
+/* A machine over a table and a memory, still to be reset. */
+static inline struct northbridge northbridge_over(void *table, size_t table_length, void *memory, size_t memory_length)
+{
+    struct northbridge bridge = {{0}, (uint8_t *)table, table_length, (uint8_t *)memory, memory_length};
+    return bridge;
+}
+
+/* Word i of a slice, the low byte first. Byte by byte, without a loop, compilers make it one load or one store. */
+static inline uint64_t northbridge_word(const uint8_t *slice, size_t i)
+{
+    const uint8_t *bytes = slice + 8 * i;
+    return (uint64_t)bytes[0] | (uint64_t)bytes[1] << 8 | (uint64_t)bytes[2] << 16 | (uint64_t)bytes[3] << 24
+        | (uint64_t)bytes[4] << 32 | (uint64_t)bytes[5] << 40 | (uint64_t)bytes[6] << 48 | (uint64_t)bytes[7] << 56;
+}
+
+static inline void northbridge_put_word(uint8_t *slice, size_t i, uint64_t word)
+{
+    uint8_t *bytes = slice + 8 * i;
+    bytes[0] = (uint8_t)word;
+    bytes[1] = (uint8_t)(word >> 8);
+    bytes[2] = (uint8_t)(word >> 16);
+    bytes[3] = (uint8_t)(word >> 24);
+    bytes[4] = (uint8_t)(word >> 32);
+    bytes[5] = (uint8_t)(word >> 40);
+    bytes[6] = (uint8_t)(word >> 48);
+    bytes[7] = (uint8_t)(word >> 56);
+}
+
+/* A word of a request, by enum northbridge_request_word, is set. */
+static inline void northbridge_set(struct northbridge_request *request, size_t word, uint64_t value)
+{
+    northbridge_put_word(request->bytes, word, value);
+}
+
+/* A request of an operation and a token; its other words are zero. */
+static inline struct northbridge_request northbridge_request_of(uint64_t operation, uint64_t token)
+{
+    struct northbridge_request request = {{0}};
+    northbridge_set(&request, NORTHBRIDGE_OPERATION, operation);
+    northbridge_set(&request, NORTHBRIDGE_TOKEN, token);
+    return request;
+}
+
+/* Serves any request. The buffer is lent as table and memory are: null lends none. */
+static inline struct northbridge_answer northbridge_ask(
+    struct northbridge *bridge, const struct northbridge_request *request, void *buffer, size_t length)
+{
+    uint8_t told[NORTHBRIDGE_ANSWER_SIZE];
+    uint8_t none[1] = {0}; /* what is not lent is the slice of no bytes that begins here */
+    struct northbridge_answer answer;
+    (void)northbridge_serve(
+        request->bytes, sizeof request->bytes, bridge->state, sizeof bridge->state,
+        bridge->table ? bridge->table : none, bridge->table ? bridge->table_length : 0,
+        bridge->memory ? bridge->memory : none, bridge->memory ? bridge->memory_length : 0,
+        buffer ? (uint8_t *)buffer : none, buffer ? length : 0,
+        told, sizeof told);
+    answer.refusal = northbridge_word(told, NORTHBRIDGE_REFUSAL);
+    answer.place = northbridge_word(told, NORTHBRIDGE_PLACE);
+    answer.first = northbridge_word(told, NORTHBRIDGE_FIRST);
+    answer.second = northbridge_word(told, NORTHBRIDGE_SECOND_TOKEN);
+    answer.dropped = northbridge_word(told, NORTHBRIDGE_DROPPED);
+    return answer;
+}
+
+/* The root over all of memory, whose token is 0; every other entry is freed. The key is secret, the first nonce is 1 or more. */
+static inline struct northbridge_answer northbridge_reset(struct northbridge *bridge, uint64_t key0, uint64_t key1, uint64_t first_nonce)
+{
+    struct northbridge_request request = northbridge_request_of(NORTHBRIDGE_RESET, key0);
+    northbridge_set(&request, NORTHBRIDGE_SECOND, key1);
+    northbridge_set(&request, NORTHBRIDGE_TASK, first_nonce);
+    return northbridge_ask(bridge, &request, NULL, 0);
+}
+
+/* The bytes at an address, a token with an offset, go to the buffer. Task 0 is none. */
+static inline struct northbridge_answer northbridge_read(
+    struct northbridge *bridge, uint64_t address, uint64_t task, void *buffer, size_t length)
+{
+    struct northbridge_request request = northbridge_request_of(NORTHBRIDGE_READ, address);
+    northbridge_set(&request, NORTHBRIDGE_TASK, task);
+    return northbridge_ask(bridge, &request, buffer, length);
+}
+
+/* The bytes go to the address. They are only read. */
+static inline struct northbridge_answer northbridge_write(
+    struct northbridge *bridge, uint64_t address, uint64_t task, const void *bytes, size_t length)
+{
+    struct northbridge_request request = northbridge_request_of(NORTHBRIDGE_WRITE, address);
+    northbridge_set(&request, NORTHBRIDGE_TASK, task);
+    return northbridge_ask(bridge, &request, (void *)(uintptr_t)bytes, length);
+}
+
+/* As read, for instructions. */
+static inline struct northbridge_answer northbridge_fetch(
+    struct northbridge *bridge, uint64_t address, uint64_t task, void *buffer, size_t length)
+{
+    struct northbridge_request request = northbridge_request_of(NORTHBRIDGE_FETCH, address);
+    northbridge_set(&request, NORTHBRIDGE_TASK, task);
+    return northbridge_ask(bridge, &request, buffer, length);
+}
+
+/* A segment's front part becomes a segment of its own. First: the part's token; second: the rest's, 0 if nothing is left. */
+static inline struct northbridge_answer northbridge_create(
+    struct northbridge *bridge, uint64_t token, uint64_t task, uint64_t length, uint64_t user, uint64_t permissions, uint64_t encoding)
+{
+    struct northbridge_request request = northbridge_request_of(NORTHBRIDGE_CREATE, token);
+    northbridge_set(&request, NORTHBRIDGE_TASK, task);
+    northbridge_set(&request, NORTHBRIDGE_LENGTH, length);
+    northbridge_set(&request, NORTHBRIDGE_USER, user);
+    northbridge_set(&request, NORTHBRIDGE_PERMISSIONS, permissions);
+    northbridge_set(&request, NORTHBRIDGE_ENCODING, encoding);
+    return northbridge_ask(bridge, &request, NULL, 0);
+}
+
+/* Two segments become one; the second begins where the first ends. First: its token. */
+static inline struct northbridge_answer northbridge_merge(
+    struct northbridge *bridge, uint64_t token, uint64_t second, uint64_t task, uint64_t encoding)
+{
+    struct northbridge_request request = northbridge_request_of(NORTHBRIDGE_MERGE, token);
+    northbridge_set(&request, NORTHBRIDGE_SECOND, second);
+    northbridge_set(&request, NORTHBRIDGE_TASK, task);
+    northbridge_set(&request, NORTHBRIDGE_ENCODING, encoding);
+    return northbridge_ask(bridge, &request, NULL, 0);
+}
+
+/* A child over a part of what the token names; offset + length is less than the parent's length. First: the child's token. */
+static inline struct northbridge_answer northbridge_derive(
+    struct northbridge *bridge, uint64_t token, uint64_t offset, uint64_t length, uint64_t permissions, uint64_t encoding)
+{
+    struct northbridge_request request = northbridge_request_of(NORTHBRIDGE_DERIVE, token);
+    northbridge_set(&request, NORTHBRIDGE_SECOND, offset);
+    northbridge_set(&request, NORTHBRIDGE_LENGTH, length);
+    northbridge_set(&request, NORTHBRIDGE_PERMISSIONS, permissions);
+    northbridge_set(&request, NORTHBRIDGE_ENCODING, encoding);
+    return northbridge_ask(bridge, &request, NULL, 0);
+}
+
+/* A child over the whole of what the token names, with X alone. First: its token. */
+static inline struct northbridge_answer northbridge_execute_only(struct northbridge *bridge, uint64_t token, uint64_t encoding)
+{
+    struct northbridge_request request = northbridge_request_of(NORTHBRIDGE_EXECUTE_ONLY, token);
+    northbridge_set(&request, NORTHBRIDGE_ENCODING, encoding);
+    return northbridge_ask(bridge, &request, NULL, 0);
+}
+
+/* The entry's count rises by one. */
+static inline struct northbridge_answer northbridge_clone(struct northbridge *bridge, uint64_t token)
+{
+    struct northbridge_request request = northbridge_request_of(NORTHBRIDGE_CLONE, token);
+    return northbridge_ask(bridge, &request, NULL, 0);
+}
+
+/* The entry's count falls by one; a child's entry is freed at 0. Dropped: 1 if the count fell to 0, else 0. */
+static inline struct northbridge_answer northbridge_drop(struct northbridge *bridge, uint64_t token)
+{
+    struct northbridge_request request = northbridge_request_of(NORTHBRIDGE_DROP, token);
+    return northbridge_ask(bridge, &request, NULL, 0);
+}
+
+/* The segment that the token lies in is locked for the task, which is not 0. */
+static inline struct northbridge_answer northbridge_lock(struct northbridge *bridge, uint64_t token, uint64_t task)
+{
+    struct northbridge_request request = northbridge_request_of(NORTHBRIDGE_LOCK, token);
+    northbridge_set(&request, NORTHBRIDGE_TASK, task);
+    return northbridge_ask(bridge, &request, NULL, 0);
+}
+
+static inline struct northbridge_answer northbridge_unlock(struct northbridge *bridge, uint64_t token, uint64_t task)
+{
+    struct northbridge_request request = northbridge_request_of(NORTHBRIDGE_UNLOCK, token);
+    northbridge_set(&request, NORTHBRIDGE_TASK, task);
+    return northbridge_ask(bridge, &request, NULL, 0);
+}
+
+/* The segment becomes zeros under a new token, which is first; tokens given for it or below it before open no access. */
+static inline struct northbridge_answer northbridge_revoke(struct northbridge *bridge, uint64_t token, uint64_t encoding)
+{
+    struct northbridge_request request = northbridge_request_of(NORTHBRIDGE_REVOKE, token);
+    northbridge_set(&request, NORTHBRIDGE_ENCODING, encoding);
+    return northbridge_ask(bridge, &request, NULL, 0);
+}
+
+/* ---- Tokens. Any 64-bit word is some token's. */
+
+/* This word names a number beyond every table: each request that names an entry by it is refused. */
+#define NORTHBRIDGE_NO_TOKEN (~(uint64_t)0)
+
+struct northbridge_fields {
+    uint64_t encoding; /* 2 bits: 0 to 3 */
+    uint64_t tag;      /* 16 bits */
+    uint64_t number;   /* 14, 46, 30 or 22 bits, by the encoding */
+    uint64_t offset;   /* 32, 0, 16 or 24 bits */
+};
+
+static inline unsigned northbridge_offset_width(uint64_t encoding)
+{
+    switch (encoding) {
+    case 0: return 32;
+    case 1: return 0;
+    case 2: return 16;
+    default: return 24;
+    }
+}
+
+/* The fields of a token. */
+static inline struct northbridge_fields northbridge_fields_of(uint64_t token)
+{
+    struct northbridge_fields fields;
+    unsigned width = northbridge_offset_width(token >> 62);
+    fields.encoding = token >> 62;
+    fields.tag = token >> 46 & 0xffff;
+    fields.number = (token & (((uint64_t)1 << 46) - 1)) >> width;
+    fields.offset = token & (((uint64_t)1 << width) - 1);
+    return fields;
+}
+
+/* The token of such fields; NORTHBRIDGE_NO_TOKEN if one does not fit. With another encoding it is the same token in that encoding. */
+static inline uint64_t northbridge_token_of(struct northbridge_fields fields)
+{
+    unsigned width = northbridge_offset_width(fields.encoding);
+    if (fields.encoding > 3 || fields.tag >> 16 || fields.number >> (46 - width) || fields.offset >> width) {
+        return NORTHBRIDGE_NO_TOKEN;
+    }
+    return fields.encoding << 62 | fields.tag << 46 | fields.number << width | fields.offset;
+}
+
+/*
+ * The address so many bytes further on; NORTHBRIDGE_NO_TOKEN if the token's encoding has no room for it. In encoding 1, which has no
+ * offset, a plain sum would be another entry's token.
+ */
+static inline uint64_t northbridge_at(uint64_t token, uint64_t offset)
+{
+    struct northbridge_fields fields = northbridge_fields_of(token);
+    if (offset >> 32) {
+        return NORTHBRIDGE_NO_TOKEN;
+    }
+    fields.offset += offset;
+    return northbridge_token_of(fields);
+}
+
+/* What a refusal means, in a few words. */
+static inline const char *northbridge_refusal_text(uint64_t refusal)
+{
+    switch (refusal) {
+    case NORTHBRIDGE_GRANTED: return "granted";
+    case NORTHBRIDGE_BAD_REQUEST: return "bad request";
+    case NORTHBRIDGE_NO_ENTRY: return "no such entry";
+    case NORTHBRIDGE_ILL_FORMED: return "ill-formed";
+    case NORTHBRIDGE_DEAD: return "dead line";
+    case NORTHBRIDGE_LOCKED: return "locked for another task";
+    case NORTHBRIDGE_KIND: return "not a direct entry";
+    case NORTHBRIDGE_RIGHT: return "right lacking";
+    case NORTHBRIDGE_BOUNDS: return "out of bounds";
+    case NORTHBRIDGE_STANDING: return "standing forbids it";
+    case NORTHBRIDGE_NO_NUMBER: return "no free number";
+    case NORTHBRIDGE_NO_NONCE: return "too few nonces";
+    default: return "no refusal of the interface";
+    }
+}
+
+#endif
 
 #ifdef __cplusplus
 }

@@ -1,87 +1,53 @@
 /*
- * A reset, a derive, and reads through the token that it gave. From the repository's root:
+ * A hook station's card writes a record of twelve bytes, the weigher's task holds it, and another card tries to read it. From the
+ * repository's root:
  *
- *     rt staticlib northbridge
+ *     ./build-library
  *     cc -Iinclude examples/c/example.c -Ltarget/staticlib -lnorthbridge -o target/example && target/example
  */
 #include "northbridge.h"
 
 #include <inttypes.h>
 #include <stdio.h>
-#include <string.h>
 
-static uint8_t request[NORTHBRIDGE_REQUEST_SIZE];
-static uint8_t state[NORTHBRIDGE_STATE_SIZE];
-static uint8_t table[4 * NORTHBRIDGE_ENTRY_SIZE];
+enum { WEIGHER = 7, OTHER = 8 }; /* tasks */
+
+static uint8_t table[16 * NORTHBRIDGE_ENTRY_SIZE];
 static uint8_t memory[65536];
-static uint8_t buffer[12];
-static uint8_t answer[NORTHBRIDGE_ANSWER_SIZE];
 
-static void put(uint8_t *slice, int i, uint64_t word)
+/* Prints what became of a request. */
+static struct northbridge_answer said(const char *what, struct northbridge_answer answer)
 {
-    for (int k = 0; k < 8; k++) {
-        slice[8 * i + k] = (uint8_t)(word >> 8 * k);
-    }
-}
-
-static uint64_t get(const uint8_t *slice, int i)
-{
-    uint64_t word = 0;
-    for (int k = 7; k >= 0; k--) {
-        word = word << 8 | slice[8 * i + k];
-    }
-    return word;
-}
-
-/* Starts a request; its other words are zero. */
-static void ask(uint64_t operation, uint64_t token)
-{
-    memset(request, 0, sizeof request);
-    put(request, NORTHBRIDGE_OPERATION, operation);
-    put(request, NORTHBRIDGE_TOKEN, token);
-}
-
-/* Serves the request and prints its refusal. */
-static void serve(const char *name)
-{
-    uint64_t refusal = northbridge_serve(
-        request, sizeof request, state, sizeof state, table, sizeof table,
-        memory, sizeof memory, buffer, sizeof buffer, answer, sizeof answer);
-    printf("%s %" PRIu64 "\n", name, refusal);
+    printf("%s: %" PRIu64 " %s\n", what, answer.refusal, northbridge_refusal_text(answer.refusal));
+    return answer;
 }
 
 int main(void)
 {
-    memcpy(memory + 4096, "Hello, cards", 12);
+    static const char record[12] = "A4711 093.5";
+    char seen[12] = "";
 
-    /* The key 1, 2 and the first nonce 1. The root's token is 0. */
-    ask(NORTHBRIDGE_RESET, 1);
-    put(request, NORTHBRIDGE_SECOND, 2);
-    put(request, NORTHBRIDGE_TASK, 1);
-    serve("reset");
+    /* The root is all of memory, and its token is 0. The key is to be secret. */
+    struct northbridge bridge = northbridge_over(table, sizeof table, memory, sizeof memory);
+    said("reset", northbridge_reset(&bridge, 1, 2, 1));
 
-    /* A child of 12 bytes at 4096 that may be read. */
-    ask(NORTHBRIDGE_DERIVE, 0);
-    put(request, NORTHBRIDGE_SECOND, 4096);
-    put(request, NORTHBRIDGE_LENGTH, 12);
-    put(request, NORTHBRIDGE_PERMISSIONS, 4);
-    serve("derive");
-    uint64_t child = get(answer, NORTHBRIDGE_FIRST);
+    /* A segment of 4,096 bytes for records, and of it the first 1,200 for the station's card, which may only write. */
+    uint64_t records = said("create", northbridge_create(&bridge, 0, 0, 4096, 0, NORTHBRIDGE_R | NORTHBRIDGE_W, 0)).first;
+    uint64_t card = said("derive", northbridge_derive(&bridge, records, 0, 1200, NORTHBRIDGE_W, 0)).first;
+    said("the card writes record 3", northbridge_write(&bridge, northbridge_at(card, 3 * sizeof record), 0, record, sizeof record));
+    said("the card reads", northbridge_read(&bridge, card, 0, seen, sizeof seen));
+    said("one byte too far", northbridge_write(&bridge, northbridge_at(card, 1189), 0, record, sizeof record));
 
-    ask(NORTHBRIDGE_READ, child);
-    serve("read");
-    printf("%.12s\n", (const char *)buffer);
+    /* While the weigher holds the segment, no other task gets at its bytes. */
+    said("the weigher locks", northbridge_lock(&bridge, records, WEIGHER));
+    said("another reads", northbridge_read(&bridge, northbridge_at(records, 36), OTHER, seen, sizeof seen));
+    said("the weigher reads", northbridge_read(&bridge, northbridge_at(records, 36), WEIGHER, seen, sizeof seen));
+    printf("%s\n", seen);
 
-    /* One byte further, the 12 bytes are not all inside. */
-    ask(NORTHBRIDGE_READ, child + 1);
-    serve("read at 1");
-
-    /* It may not be written. */
-    ask(NORTHBRIDGE_WRITE, child);
-    serve("write");
-
-    /* The same with another tag. */
-    ask(NORTHBRIDGE_READ, child ^ (uint64_t)1 << 46);
-    serve("read forged");
-    return 0;
+    /* A revoke zeros the segment and gives it a new token. The card's is dead; a drop gives its number back. */
+    records = said("revoke", northbridge_revoke(&bridge, records, 0)).first;
+    said("the card writes", northbridge_write(&bridge, card, 0, record, sizeof record));
+    said("drop", northbridge_drop(&bridge, card));
+    said("read", northbridge_read(&bridge, northbridge_at(records, 36), 0, seen, sizeof seen));
+    return seen[0];
 }

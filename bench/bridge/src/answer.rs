@@ -1,6 +1,7 @@
 //! Answers, as the five words of the interface, and typed.
 
 use crate::refusal::{Check, Place, Refusal};
+use crate::token::Token;
 
 /// An answer as the interface gives it.
 #[derive(Clone, Copy, Debug, Default, PartialEq, Eq)]
@@ -15,11 +16,14 @@ pub struct Reply {
     pub dropped: u64,
 }
 
-/// What a granted request gives; 0 where it gives nothing.
+/// What a granted request gives. The word 0 stands where it gives none, and is also the root's token.
 #[derive(Clone, Copy, Debug, Default, PartialEq, Eq)]
 pub struct Granted {
-    pub first: u64,
-    pub second: u64,
+    /// A create's part, a merge's whole, a child, a revoked segment's new token.
+    pub first: Token,
+    /// A create's rest, if there is one.
+    pub second: Token,
+    /// Drop's number: 1 if the count fell to 0, else 0.
     pub dropped: u64,
 }
 
@@ -39,7 +43,7 @@ impl Reply {
     pub fn typed(&self) -> Option<Result<Granted, Refusal>> {
         let Reply { refusal, place, first, second, dropped } = *self;
         match (refusal, Place::of(place)) {
-            (0, None) => Some(Ok(Granted { first, second, dropped })),
+            (0, None) => Some(Ok(Granted { first: Token(first), second: Token(second), dropped })),
             (refusal, place) => Check::of(refusal)?.refusal(place).map(Err),
         }
     }

@@ -2,18 +2,46 @@
 //!
 //! The slices are lent as `&mut`, so no two can overlap; the request, the state and the answer are
 //! values of their own, so none can be short. Nothing is asked of table, memory and buffer: any
-//! bytes and any lengths have a defined answer.
+//! bytes and any lengths have a defined answer. docs/USING.md says what the machine does.
 //!
 //! ```
-//! use bridge::{Northbridge, Request};
+//! use bridge::{Encoding, Northbridge, Permissions, Refusal, Request, Task, Token};
 //!
 //! let (mut table, mut memory) = ([0; 4 * 32], [0; 65_536]);
-//! let mut bridge = Northbridge::reset([0, 0], 1, &mut table, &mut memory).unwrap();
-//! let part = Request::Derive { token: 0, offset: 0, length: 64, permissions: 4, encoding: 0 };
-//! let token = bridge.ask(&part).unwrap().first;
-//! let mut bytes = [1; 12];
-//! bridge.access(&Request::Read { token, task: 0 }, &mut bytes).unwrap();
-//! assert_eq!(bytes, [0; 12]);
+//! let mut bridge = Northbridge::reset([1, 2], 1, &mut table, &mut memory)?;
+//! let (token, permissions, encoding) = (Token::ROOT, Permissions::W, Encoding::E0);
+//! let part = Request::Derive { token, offset: 0, length: 64, permissions, encoding };
+//! let part = bridge.ask(&part)?.first;
+//! bridge.write(part.at(12)?, Task::NONE, b"twelve bytes")?;
+//! let refused = bridge.read(part, Task::NONE, &mut [0; 12]).unwrap_err();
+//! assert_eq!(refused, Refusal::Right);
+//! assert_eq!(refused.to_string(), "refusal 7, right lacking");
+//! # Ok::<(), Box<dyn std::error::Error>>(())
+//! ```
+//!
+//! An access is no request of [`Northbridge::ask`], since it needs a buffer:
+//!
+//! ```compile_fail,E0599
+//! # use bridge::{Northbridge, Request, Task, Token};
+//! # fn asked(bridge: &mut Northbridge) {
+//! bridge.ask(&Request::Read { token: Token::ROOT, task: Task::NONE });
+//! # }
+//! ```
+//!
+//! A read fills bytes that can be written, and a token is no task:
+//!
+//! ```compile_fail,E0308
+//! # use bridge::{Northbridge, Task, Token};
+//! # fn asked(bridge: &mut Northbridge) {
+//! bridge.read(Token::ROOT, Task::NONE, &[0; 12]);
+//! # }
+//! ```
+//!
+//! ```compile_fail,E0308
+//! # use bridge::{Northbridge, Task, Token};
+//! # fn asked(bridge: &mut Northbridge) {
+//! bridge.read(Task::NONE, Token::ROOT, &mut [0; 12]);
+//! # }
 //! ```
 
 mod answer;
@@ -21,7 +49,9 @@ mod bytes;
 mod operation;
 mod refusal;
 mod request;
+mod rights;
 mod state;
+mod token;
 mod words;
 
 pub use answer::{Granted, Reply};
@@ -29,8 +59,13 @@ pub use bytes::{put_words, words_of};
 pub use operation::{Buffer, Operation};
 pub use refusal::{refusal_words, Check, Place, Refusal};
 pub use request::Request;
+pub use rights::{Permissions, Task};
 pub use state::State;
+pub use token::{Encoding, Token, TooFar};
 pub use words::{Argument, Words};
+
+/// The interface's version, which include/northbridge.h has too.
+pub const VERSION: u64 = 1;
 
 /// How many bytes the interface's request, state and answer have.
 pub const REQUEST_BYTES: usize = 8 * Words::COUNT;
@@ -59,14 +94,39 @@ impl<'a> Northbridge<'a> {
 
     /// Serves a request that is no access.
     pub fn ask(&mut self, request: &Request) -> Result<Granted, Refusal> {
-        self.access(request, &mut [])
+        self.served(&request.words(), &mut [])
     }
 
-    /// Serves a request; the buffer is what a read or a fetch fills and a write stores.
-    pub fn access(&mut self, request: &Request, buffer: &mut [u8]) -> Result<Granted, Refusal> {
-        let reply = serve(&request.words(), &mut self.state, self.table, self.memory, buffer);
-        reply.typed().expect("an answer of the interface")
+    /// The bytes at an address go to the buffer.
+    pub fn read(&mut self, address: Token, task: Task, buffer: &mut [u8]) -> Result<(), Refusal> {
+        self.served(&Words::access(Operation::Read, address, task), buffer).map(|_| ())
     }
+
+    /// As read, for instructions.
+    pub fn fetch(&mut self, address: Token, task: Task, buffer: &mut [u8]) -> Result<(), Refusal> {
+        self.served(&Words::access(Operation::Fetch, address, task), buffer).map(|_| ())
+    }
+
+    /// The bytes go to an address.
+    pub fn write(&mut self, address: Token, task: Task, bytes: &[u8]) -> Result<(), Refusal> {
+        let request = Words::access(Operation::Write, address, task);
+        let Northbridge { state, table, memory } = self;
+        let reply = serve_with(&request, state, |request, state, answer| {
+            // The exclusive slices do not overlap the bytes, and a write only reads them:
+            // tests/typed.rs lends it bytes that cannot be written.
+            let brought = (bytes.as_ptr().cast_mut(), bytes.len());
+            unsafe { call_with(request, state, table, memory, brought, answer) }
+        });
+        typed(&reply).map(|_| ())
+    }
+
+    fn served(&mut self, request: &Words, buffer: &mut [u8]) -> Result<Granted, Refusal> {
+        typed(&serve(request, &mut self.state, self.table, self.memory, buffer))
+    }
+}
+
+fn typed(reply: &Reply) -> Result<Granted, Refusal> {
+    reply.typed().expect("an answer of the interface")
 }
 
 /// Serves one request, given as words: any words have a defined answer.
@@ -77,22 +137,54 @@ pub fn serve(
     memory: &mut [u8],
     buffer: &mut [u8],
 ) -> Reply {
+    serve_with(request, state, |request, state, answer| {
+        call(request, state, table, memory, buffer, answer)
+    })
+}
+
+/// Request and state become bytes for a call, and what it leaves is taken from them.
+#[inline(always)]
+fn serve_with(
+    request: &Words,
+    state: &mut State,
+    call: impl FnOnce(&[u8], &mut [u8], &mut [u8]) -> u64,
+) -> Reply {
     let (mut asked, mut lent) = ([0; REQUEST_BYTES], [0; STATE_BYTES]);
     put_words(&mut asked, &request.in_order());
     put_words(&mut lent, &state.in_order());
     let mut answer = [0; ANSWER_BYTES];
-    call(&asked, &mut lent, table, memory, buffer, &mut answer);
+    call(&asked, &mut lent, &mut answer);
     *state = State::from_order(words_of(&lent));
     Reply::from_order(words_of(&answer))
 }
 
 /// The interface's function over slices of any lengths. It returns the refusal.
+#[inline(always)]
 pub fn call(
     request: &[u8],
     state: &mut [u8],
     table: &mut [u8],
     memory: &mut [u8],
     buffer: &mut [u8],
+    answer: &mut [u8],
+) -> u64 {
+    let buffer = (buffer.as_mut_ptr(), buffer.len());
+    // The buffer is an exclusive slice.
+    unsafe { call_with(request, state, table, memory, buffer, answer) }
+}
+
+/// The same, with the buffer as a pointer and a length.
+///
+/// # Safety
+/// The buffer is a slice that overlaps none of the others; it can be written, unless the request is
+/// a write; and nothing else writes it meanwhile.
+#[inline(always)]
+unsafe fn call_with(
+    request: &[u8],
+    state: &mut [u8],
+    table: &mut [u8],
+    memory: &mut [u8],
+    (buffer, buffer_length): (*mut u8, usize),
     answer: &mut [u8],
 ) -> u64 {
     // Each pointer and length is that of a slice; the slices are exclusive, so none overlap.
@@ -106,8 +198,8 @@ pub fn call(
             table.len(),
             memory.as_mut_ptr(),
             memory.len(),
-            buffer.as_mut_ptr(),
-            buffer.len(),
+            buffer,
+            buffer_length,
             answer.as_mut_ptr(),
             answer.len(),
         )

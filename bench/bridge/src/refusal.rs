@@ -1,5 +1,8 @@
 //! Refusals: one row each, from which the bench takes a refusal's number, its words and its places.
 
+use std::error::Error;
+use std::fmt;
+
 /// Which entry was the bad one.
 #[derive(Clone, Copy, Debug, PartialEq, Eq)]
 #[repr(u64)]
@@ -9,7 +12,7 @@ pub enum Place {
 }
 
 /// Why a request was refused.
-#[derive(Clone, Copy, Debug, PartialEq, Eq)]
+#[derive(Clone, Copy, PartialEq, Eq)]
 pub enum Refusal {
     Request,
     Entry,
@@ -108,6 +111,53 @@ impl Check {
         }
     }
 }
+
+impl Form {
+    /// Whether the refusal is of this form, with any place.
+    fn is_of(&self, refusal: Refusal) -> bool {
+        match self {
+            Plain(plain) => *plain == refusal,
+            Placed(placed) => Place::ALL.into_iter().any(|place| placed(place) == refusal),
+        }
+    }
+}
+
+impl Refusal {
+    /// The check that gives it.
+    pub fn check(self) -> Check {
+        let row = ROWS.iter().find(|(.., form)| form.is_of(self));
+        row.expect("a row for each refusal").0
+    }
+
+    /// Its number at the interface.
+    pub fn number(self) -> u64 {
+        self.check() as u64
+    }
+
+    /// Which entry was the bad one, if it tells.
+    pub fn place(self) -> Option<Place> {
+        match self {
+            Refusal::IllFormed(place) | Refusal::Dead(place) => Some(place),
+            _ => None,
+        }
+    }
+}
+
+impl fmt::Display for Refusal {
+    fn fmt(&self, f: &mut fmt::Formatter<'_>) -> fmt::Result {
+        write!(f, "refusal {}, {}", self.number(), refusal_words(self.number()))?;
+        self.place().map_or(Ok(()), |place| write!(f, ": {}", place.words()))
+    }
+}
+
+/// The same, since this is what a `main` that returns it says.
+impl fmt::Debug for Refusal {
+    fn fmt(&self, f: &mut fmt::Formatter<'_>) -> fmt::Result {
+        fmt::Display::fmt(self, f)
+    }
+}
+
+impl Error for Refusal {}
 
 /// What a refusal's number means; 0 is granted.
 pub fn refusal_words(refusal: u64) -> &'static str {

@@ -1,58 +1,113 @@
-//! Requests, typed.
+//! Requests, typed. An access is not among them: it brings a buffer, and is a call of its own.
 
 use crate::operation::Operation;
+use crate::rights::{Permissions, Task};
+use crate::token::{Encoding, Token};
 use crate::words::Words;
 
-/// A request, with the words that it uses.
+/// A request that brings no buffer, with the words that it uses.
 #[derive(Clone, Copy, Debug, PartialEq, Eq)]
 pub enum Request {
-    Reset { key: [u64; 2], first_nonce: u64 },
-    Read { token: u64, task: u64 },
-    Write { token: u64, task: u64 },
-    Fetch { token: u64, task: u64 },
-    Create { token: u64, task: u64, length: u64, user: u64, permissions: u64, encoding: u64 },
-    Merge { first: u64, second: u64, task: u64, encoding: u64 },
-    Derive { token: u64, offset: u64, length: u64, permissions: u64, encoding: u64 },
-    ExecuteOnly { token: u64, encoding: u64 },
-    Clone { token: u64 },
-    Drop { token: u64 },
-    Lock { token: u64, task: u64 },
-    Unlock { token: u64, task: u64 },
-    Revoke { token: u64, encoding: u64 },
+    Reset {
+        key: [u64; 2],
+        first_nonce: u64,
+    },
+    Create {
+        token: Token,
+        task: Task,
+        length: u64,
+        user: u64,
+        permissions: Permissions,
+        encoding: Encoding,
+    },
+    Merge {
+        first: Token,
+        second: Token,
+        task: Task,
+        encoding: Encoding,
+    },
+    Derive {
+        token: Token,
+        offset: u64,
+        length: u64,
+        permissions: Permissions,
+        encoding: Encoding,
+    },
+    ExecuteOnly {
+        token: Token,
+        encoding: Encoding,
+    },
+    Clone {
+        token: Token,
+    },
+    Drop {
+        token: Token,
+    },
+    Lock {
+        token: Token,
+        task: Task,
+    },
+    Unlock {
+        token: Token,
+        task: Task,
+    },
+    Revoke {
+        token: Token,
+        encoding: Encoding,
+    },
 }
 
 impl Request {
     /// The words of the interface; those that the request does not use are zero.
     pub fn words(&self) -> Words {
         let of = |operation: Operation| Words { operation: operation as u64, ..Words::default() };
+        let named = |operation, token: Token| Words { token: token.0, ..of(operation) };
         match *self {
             Request::Reset { key: [token, second], first_nonce: task } => {
                 Words { token, second, task, ..of(Operation::Reset) }
             }
-            Request::Read { token, task } => Words { token, task, ..of(Operation::Read) },
-            Request::Write { token, task } => Words { token, task, ..of(Operation::Write) },
-            Request::Fetch { token, task } => Words { token, task, ..of(Operation::Fetch) },
-            Request::Create { token, task, length, user, permissions, encoding } => {
-                let words = of(Operation::Create);
-                Words { token, task, length, user, permissions, encoding, ..words }
-            }
-            Request::Merge { first: token, second, task, encoding } => {
-                Words { token, second, task, encoding, ..of(Operation::Merge) }
-            }
-            Request::Derive { token, offset: second, length, permissions, encoding } => {
-                let words = of(Operation::Derive);
-                Words { token, second, length, permissions, encoding, ..words }
-            }
+            Request::Create { token, task, length, user, permissions, encoding } => Words {
+                task: task.0,
+                length,
+                user,
+                permissions: permissions.number(),
+                encoding: encoding as u64,
+                ..named(Operation::Create, token)
+            },
+            Request::Merge { first, second, task, encoding } => Words {
+                second: second.0,
+                task: task.0,
+                encoding: encoding as u64,
+                ..named(Operation::Merge, first)
+            },
+            Request::Derive { token, offset: second, length, permissions, encoding } => Words {
+                second,
+                length,
+                permissions: permissions.number(),
+                encoding: encoding as u64,
+                ..named(Operation::Derive, token)
+            },
             Request::ExecuteOnly { token, encoding } => {
-                Words { token, encoding, ..of(Operation::ExecuteOnly) }
+                Words { encoding: encoding as u64, ..named(Operation::ExecuteOnly, token) }
             }
-            Request::Clone { token } => Words { token, ..of(Operation::Clone) },
-            Request::Drop { token } => Words { token, ..of(Operation::Drop) },
-            Request::Lock { token, task } => Words { token, task, ..of(Operation::Lock) },
-            Request::Unlock { token, task } => Words { token, task, ..of(Operation::Unlock) },
+            Request::Clone { token } => named(Operation::Clone, token),
+            Request::Drop { token } => named(Operation::Drop, token),
+            Request::Lock { token, task } => {
+                Words { task: task.0, ..named(Operation::Lock, token) }
+            }
+            Request::Unlock { token, task } => {
+                Words { task: task.0, ..named(Operation::Unlock, token) }
+            }
             Request::Revoke { token, encoding } => {
-                Words { token, encoding, ..of(Operation::Revoke) }
+                Words { encoding: encoding as u64, ..named(Operation::Revoke, token) }
             }
         }
+    }
+}
+
+impl Words {
+    /// The words of an access: one of the three ways, and where it begins.
+    pub fn access(way: Operation, address: Token, task: Task) -> Words {
+        Words { operation: way as u64, token: address.0, task: task.0, ..Words::default() }
     }
 }

@@ -1,6 +1,6 @@
 //! Accesses: reads, writes and fetches of several sizes through lines of several depths.
 
-use bridge::{Operation, Words};
+use bridge::{Operation, Task, Words};
 
 use crate::built::Built;
 use crate::case::Case;
@@ -16,8 +16,8 @@ const OFFSET: usize = 8_192;
 /// The accesses of all sizes, one way, through a line of one depth.
 pub fn cases(way: Operation, depth: usize) -> Vec<Case> {
     let mut built = Built::new(depth + 2, MEMORY);
-    let token = built.line(depth)[depth] + OFFSET as u64;
-    let request = Words { operation: way as u64, token, ..Words::default() };
+    let address = built.line(depth)[depth].at(OFFSET as u64).expect("encoding 0 has room for it");
+    let request = Words::access(way, address, Task::NONE);
     let case = |bytes: usize| {
         let range = OFFSET..OFFSET + bytes;
         let limit = match way {

@@ -1,17 +1,17 @@
 //! The operations that are no access, each where it is granted.
 
-use bridge::Request;
+use bridge::{Encoding, Permissions, Request, Task, Token};
 use session::World;
 
 use crate::accesses::DEPTHS;
-use crate::built::{Built, ALL, KEY};
+use crate::built::{self, Built, KEY};
 use crate::case::Case;
 use crate::limit::Limit;
 
 const MEMORY: usize = 65_536;
 /// The length of a part that is created, and of a segment that is revoked.
 const PART: u64 = 4_096;
-const TASK: u64 = 7;
+const TASK: Task = Task(7);
 
 /// Those that name a direct entry, or none.
 pub fn of_segments() -> Vec<Case> {
@@ -39,32 +39,36 @@ fn create(length: u64) -> Case {
 }
 
 fn a_create(length: u64) -> Request {
-    Request::Create { token: 0, task: 0, length, user: 0, permissions: ALL, encoding: 0 }
+    built::create(Token::ROOT, length, Permissions::ALL)
+}
+
+fn a_derive(token: Token) -> Request {
+    built::derive(token, 16, Permissions::ALL)
 }
 
 fn merge() -> Case {
     let mut built = Built::new(4, MEMORY);
     let reply = built.world.serve(&a_create(PART).words(), &mut []);
-    let request = Request::Merge { first: reply.first, second: reply.second, task: 0, encoding: 0 };
+    let (first, second) = (Token(reply.first), Token(reply.second));
+    let request = Request::Merge { first, second, task: Task::NONE, encoding: Encoding::E0 };
     case("merge", "two parts".into(), 0, built.world, request, Limit::Issue(1))
 }
 
 /// A revoke of a segment of so many bytes, the whole of memory.
 pub fn revoke(bytes: usize) -> Case {
     let world = Built::new(4, bytes).world;
-    let request = Request::Revoke { token: 0, encoding: 0 };
+    let request = Request::Revoke { token: Token::ROOT, encoding: Encoding::E0 };
     case("revoke", format!("{bytes} bytes"), bytes, world, request, Limit::Renew(0..bytes))
 }
 
 fn derive(depth: usize) -> Case {
     let (built, token) = line(depth);
-    let request = Request::Derive { token, offset: 0, length: 16, permissions: ALL, encoding: 0 };
-    case("derive", at(depth), depth, built.world, request, Limit::Issue(1))
+    case("derive", at(depth), depth, built.world, a_derive(token), Limit::Issue(1))
 }
 
 fn execute_only(depth: usize) -> Case {
     let (built, token) = line(depth);
-    let request = Request::ExecuteOnly { token, encoding: 0 };
+    let request = Request::ExecuteOnly { token, encoding: Encoding::E0 };
     case("execute-only", at(depth), depth, built.world, request, Limit::Issue(1))
 }
 
@@ -87,7 +91,7 @@ fn drop(depth: usize) -> Case {
 pub fn climb(depth: usize) -> Case {
     let mut built = Built::new(depth + 3, MEMORY);
     let token = match depth {
-        0 => built.ask(&Request::Clone { token: 0 }),
+        0 => built.ask(&Request::Clone { token: Token::ROOT }),
         _ => built.bare_line(depth),
     };
     case("drop, to the root", at(depth), depth, built.world, Request::Drop { token }, Limit::Call)
@@ -114,14 +118,12 @@ fn unlock(depth: usize) -> Case {
 /// A derive that finds its number as the last of the table.
 pub fn search(entries: usize) -> Case {
     let world = Built::full_but_one(entries, MEMORY).world;
-    let request =
-        Request::Derive { token: 0, offset: 0, length: 16, permissions: ALL, encoding: 0 };
     let of = format!("{entries} entries");
-    case("derive", of, entries, world, request, Limit::Issue(1))
+    case("derive", of, entries, world, a_derive(Token::ROOT), Limit::Issue(1))
 }
 
 /// A line of the depth with room for two entries more, and the token of its lower end.
-fn line(depth: usize) -> (Built, u64) {
+fn line(depth: usize) -> (Built, Token) {
     let mut built = Built::new(depth + 3, MEMORY);
     let token = built.line(depth)[depth];
     (built, token)

@@ -2,12 +2,12 @@
 //! the segment's bytes. What the tables stand at and what is asked are tried one with the other, and
 //! what the model refuses is kept.
 
-use bridge::{Operation, Request, Words, ANSWER_BYTES};
+use bridge::{Encoding, Operation, Permissions, Request, Task, Token, Words, ANSWER_BYTES};
 use session::entry::{self, Entry};
 use session::server::{Model, Server};
 use session::World;
 
-use crate::built::{Built, ALL};
+use crate::built::{self, Built};
 use crate::served;
 
 const MEMORY: usize = 16_384;
@@ -15,10 +15,9 @@ const MEMORY: usize = 16_384;
 const SEGMENT: usize = 1;
 const CHILD: usize = 2;
 const LENGTH: usize = 4_096;
-const HOLDER: u64 = 7;
-const OTHER: u64 = 8;
-/// R alone.
-const READ: u64 = 4;
+const HOLDER: Task = Task(7);
+const OTHER: Task = Task(8);
+const TOO_LARGE: Task = Task(1 << 55);
 
 /// A request that is refused, with what it is asked of.
 #[derive(Clone, Debug)]
@@ -35,11 +34,11 @@ pub struct Refused {
 struct Locked {
     world: World,
     /// The tokens of the segment, of its child and of the child's.
-    line: Vec<u64>,
+    line: Vec<Token>,
     /// Tokens that name nothing.
-    strange: Vec<u64>,
+    strange: Vec<Token>,
     /// The token of the segment behind, which is not locked.
-    rest: u64,
+    rest: Token,
 }
 
 /// All refused requests: of the segment as it was locked, with any token and task; and of other
@@ -47,7 +46,8 @@ struct Locked {
 pub fn refused() -> Vec<Refused> {
     let Locked { world, line, strange, rest } = locked();
     let any = [line.as_slice(), &strange].concat();
-    let mut all = refused_in("as locked", &world, &asked(&any, &[0, HOLDER, OTHER, 1 << 55], rest));
+    let tasks = [Task::NONE, HOLDER, OTHER, TOO_LARGE];
+    let mut all = refused_in("as locked", &world, &asked(&any, &tasks, rest));
     let asked = asked(&line, &[HOLDER, OTHER], rest);
     let others = standings(&world);
     all.extend(others.iter().flat_map(|(name, world)| refused_in(name, world, &asked)));
@@ -76,24 +76,15 @@ impl Refused {
 
 fn locked() -> Locked {
     let mut built = Built::new(8, MEMORY);
-    let length = LENGTH as u64;
-    let create =
-        Request::Create { token: 0, task: 0, length, user: 0, permissions: ALL, encoding: 0 };
+    let create = built::create(Token::ROOT, LENGTH as u64, Permissions::ALL);
     let reply = built.world.serve(&create.words(), &mut []);
-    let (segment, rest) = (reply.first, reply.second);
-    let derive = |token, length| Request::Derive {
-        token,
-        offset: 0,
-        length,
-        permissions: READ,
-        encoding: 0,
-    };
-    let child = built.ask(&derive(segment, 2_048));
-    let grandchild = built.ask(&derive(child, 1_024));
+    let (segment, rest) = (Token(reply.first), Token(reply.second));
+    let child = built.ask(&built::derive(segment, 2_048, Permissions::R));
+    let grandchild = built.ask(&built::derive(child, 1_024, Permissions::R));
     built.ask(&Request::Lock { token: segment, task: HOLDER });
-    let another_tag = segment ^ 1 << 46;
-    let free_number = 7 << 32;
-    let beyond_the_table = 100 << 32;
+    let another_tag = Token(segment.0 ^ 1 << 46);
+    let free_number = Token(7 << 32);
+    let beyond_the_table = Token(100 << 32);
     let strange = vec![another_tag, free_number, beyond_the_table];
     Locked { world: built.world, line: vec![segment, child, grandchild], strange, rest }
 }
@@ -132,7 +123,7 @@ fn fill(entry: Entry) -> Entry {
 }
 
 /// What is asked, with the buffer's length.
-fn asked(tokens: &[u64], tasks: &[u64], rest: u64) -> Vec<(Words, usize)> {
+fn asked(tokens: &[Token], tasks: &[Task], rest: Token) -> Vec<(Words, usize)> {
     let pairs = tokens.iter().flat_map(|token| tasks.iter().map(|task| (*token, *task)));
     let mut asked: Vec<(Words, usize)> =
         pairs.flat_map(|(token, task)| asked_through(token, task, rest)).collect();
@@ -141,61 +132,59 @@ fn asked(tokens: &[u64], tasks: &[u64], rest: u64) -> Vec<(Words, usize)> {
     asked
 }
 
-fn asked_through(token: u64, task: u64, rest: u64) -> Vec<(Words, usize)> {
+fn asked_through(token: Token, task: Task, rest: Token) -> Vec<(Words, usize)> {
     let mut asked = accesses(token, task);
-    let others = changes(token, task, rest);
-    asked.extend(others.into_iter().map(|request| (request.words(), 0)));
-    asked.push((Words { operation: 13, token, ..Words::default() }, 0));
+    let others = [changes(token, task, rest), strange_changes(token, task)].concat();
+    asked.extend(others.into_iter().map(|words| (words, 0)));
     asked
 }
 
-fn accesses(token: u64, task: u64) -> Vec<(Words, usize)> {
-    let read = |token| Request::Read { token, task }.words();
+fn accesses(token: Token, task: Task) -> Vec<(Words, usize)> {
+    let access = |way, address| Words::access(way, address, task);
+    let behind = Token(token.0 + LENGTH as u64);
     vec![
-        (read(token), 64),
-        (read(token), 0),
-        (read(token), 4_097),
-        (read(token + LENGTH as u64), 1),
-        (Request::Write { token, task }.words(), 64),
-        (Request::Fetch { token, task }.words(), 64),
+        (access(Operation::Read, token), 64),
+        (access(Operation::Read, token), 0),
+        (access(Operation::Read, token), 4_097),
+        (access(Operation::Read, behind), 1),
+        (access(Operation::Write, token), 64),
+        (access(Operation::Fetch, token), 64),
     ]
 }
 
-fn changes(token: u64, task: u64, rest: u64) -> Vec<Request> {
-    let create = |length, permissions, encoding| Request::Create {
-        token,
-        task,
-        length,
-        user: 0,
-        permissions,
-        encoding,
-    };
-    let derive = |offset, length, permissions| Request::Derive {
-        token,
-        offset,
-        length,
-        permissions,
-        encoding: 0,
-    };
-    vec![
-        create(16, READ, 0),
-        create(16, 8, 0),
-        create(16, READ, 4),
-        create(0, READ, 0),
-        create(1 << 40, READ, 0),
-        Request::Merge { first: token, second: rest, task, encoding: 0 },
-        Request::Merge { first: rest, second: token, task, encoding: 0 },
-        derive(0, 16, READ),
-        derive(0, 16, ALL),
-        derive(u64::MAX, 16, READ),
-        Request::ExecuteOnly { token, encoding: 0 },
+fn changes(token: Token, task: Task, rest: Token) -> Vec<Words> {
+    let encoding = Encoding::E0;
+    let requests = [
+        Request::Merge { first: token, second: rest, task, encoding },
+        Request::Merge { first: rest, second: token, task, encoding },
+        built::derive(token, 16, Permissions::R),
+        built::derive(token, 16, Permissions::ALL),
+        Request::ExecuteOnly { token, encoding },
         Request::Clone { token },
-        Request::Clone { token: token + 1 },
+        Request::Clone { token: Token(token.0 + 1) },
         Request::Drop { token },
         Request::Lock { token, task },
         Request::Unlock { token, task },
-        Request::Revoke { token, encoding: 0 },
-        Request::Revoke { token, encoding: 4 },
+        Request::Revoke { token, encoding },
+    ];
+    requests.map(|request| request.words()).into()
+}
+
+/// Creates, and words that no typed request has.
+fn strange_changes(token: Token, task: Task) -> Vec<Words> {
+    let create = built::create(token, 16, Permissions::R).words();
+    let create = Words { task: task.0, ..create };
+    let derive = built::derive(token, 16, Permissions::R).words();
+    let revoke = Request::Revoke { token, encoding: Encoding::E0 }.words();
+    vec![
+        create,
+        Words { permissions: 8, ..create },
+        Words { encoding: 4, ..create },
+        Words { length: 0, ..create },
+        Words { length: 1 << 40, ..create },
+        Words { second: u64::MAX, ..derive },
+        Words { encoding: 4, ..revoke },
+        Words { operation: 13, token: token.0, ..Words::default() },
     ]
 }
 

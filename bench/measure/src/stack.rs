@@ -6,7 +6,8 @@ use std::hint::black_box;
 use std::io;
 use std::ptr;
 
-use bridge::{Request, Words, ANSWER_BYTES, REQUEST_BYTES, STATE_BYTES};
+use bridge::{Operation, Request, Task, Token, Words};
+use bridge::{ANSWER_BYTES, REQUEST_BYTES, STATE_BYTES};
 use session::World;
 
 use crate::built::Built;
@@ -53,7 +54,7 @@ pub fn stack() -> io::Result<Figures> {
     let unknown = Words { operation: 99, ..Words::default() };
     let start = Built::new(4, 4_096).world;
     let (deep, token) = deepest();
-    let read = Request::Read { token, task: 0 }.words();
+    let read = Words::access(Operation::Read, token, Task::NONE);
     let (bare, bare_token) = deepest_bare();
     let drop = Request::Drop { token: bare_token }.words();
     Ok(Figures {
@@ -64,13 +65,13 @@ pub fn stack() -> io::Result<Figures> {
     })
 }
 
-fn deepest() -> (World, u64) {
+fn deepest() -> (World, Token) {
     let mut built = Built::new(DEEPEST + 1, 65_536);
     let token = built.line(DEEPEST)[DEEPEST];
     (built.world, token)
 }
 
-fn deepest_bare() -> (World, u64) {
+fn deepest_bare() -> (World, Token) {
     let mut built = Built::new(DEEPEST + 1, 65_536);
     let token = built.bare_line(DEEPEST);
     (built.world, token)

@@ -1,0 +1,128 @@
+//! The types that a caller has: tokens, tasks, permissions, requests and refusals.
+
+use bridge::{Check, Encoding, Northbridge, Operation, Permissions, Place, Refusal, Request};
+use bridge::{Task, Token, TooFar, Words};
+
+/// A constant: it lies where nothing can be written.
+static RECORD: [u8; 4_097] = [0x5a; 4_097];
+
+#[test]
+fn a_write_only_reads_its_bytes() {
+    let (mut table, mut memory) = ([0; 4 * 32], [0; 8_192]);
+    let mut bridge = Northbridge::reset([0, 0], 1, &mut table, &mut memory).unwrap();
+    for length in 0..RECORD.len() + 1 {
+        let fits = (1..=4_096).contains(&length);
+        let expected = if fits { Ok(()) } else { Err(Refusal::Request) };
+        assert_eq!(bridge.write(Token::ROOT, Task::NONE, &RECORD[..length]), expected);
+        let beyond = Token::ROOT.at(8_193 - length as u64).unwrap();
+        let expected = if fits { Err(Refusal::Bounds) } else { Err(Refusal::Request) };
+        assert_eq!(bridge.write(beyond, Task::NONE, &RECORD[..length]), expected);
+    }
+    assert_eq!(bridge.memory[..4_096], RECORD[..4_096]);
+    assert!(bridge.memory[4_096..].iter().all(|byte| *byte == 0));
+}
+
+#[test]
+fn a_read_and_a_fetch_fill_the_buffer() {
+    let (mut table, mut memory) = ([0; 4 * 32], [7; 64]);
+    let mut bridge = Northbridge::reset([0, 0], 1, &mut table, &mut memory).unwrap();
+    let mut buffer = [0; 4];
+    bridge.read(Token::ROOT, Task::NONE, &mut buffer).unwrap();
+    assert_eq!(buffer, [7; 4]);
+    let mut code = [0; 4];
+    bridge.fetch(Token::ROOT, Task::NONE, &mut code).unwrap();
+    assert_eq!(code, [7; 4]);
+}
+
+#[test]
+fn the_fields_of_a_token() {
+    let packed = [
+        (Encoding::E0, 0x048D_0005_0000_000C, 12),
+        (Encoding::E1, 0x448D_0000_0000_0005, 0),
+        (Encoding::E2, 0x848D_0000_0005_000C, 12),
+        (Encoding::E3, 0xC48D_0000_0500_000C, 12),
+    ];
+    for (encoding, word, offset) in packed {
+        let token = Token(word);
+        assert_eq!(token.encoding(), encoding);
+        assert_eq!((token.tag(), token.number(), token.offset()), (0x1234, 5, offset));
+        assert_eq!(token.to_string(), format!("{word:016x}"));
+        assert_eq!(format!("{token:?}"), format!("Token(0x{token})"));
+    }
+}
+
+#[test]
+fn an_address_is_a_token_with_an_offset_if_there_is_room() {
+    let rooms = [(0, 32), (1 << 62, 0), (2 << 62, 16), (3 << 62, 24)];
+    for (word, width) in rooms {
+        let (token, most) = (Token(word), (1 << width) - 1);
+        assert_eq!(token.at(most), Ok(Token(word + most)));
+        assert_eq!(token.at(most).unwrap().at(0), token.at(most));
+        for offset in [most + 1, u64::MAX] {
+            assert_eq!(token.at(offset), Err(TooFar { token, offset }));
+        }
+        let full = token.at(most).unwrap();
+        assert_eq!(full.at(1), Err(TooFar { token: full, offset: 1 }));
+    }
+    let error = Token(1 << 62).at(1).unwrap_err().to_string();
+    assert_eq!(error, "the token 4000000000000000 has no room for the offset 1");
+}
+
+#[test]
+fn permissions_add_up() {
+    let names = ["---", "--X", "-W-", "-WX", "R--", "R-X", "RW-", "RWX"];
+    let one = |held: bool, one| if held { one } else { Permissions::NONE };
+    for (number, name) in names.into_iter().enumerate() {
+        let (r, w) = (one(number & 4 != 0, Permissions::R), one(number & 2 != 0, Permissions::W));
+        let all = r | w | one(number & 1 != 0, Permissions::X);
+        assert_eq!((all.number(), all.to_string().as_str()), (number as u64, name));
+    }
+    assert_eq!(Permissions::ALL, Permissions::R.with(Permissions::W).with(Permissions::X));
+}
+
+#[test]
+fn a_refusal_has_its_number_its_place_and_a_text() {
+    for check in Check::all() {
+        for place in [None, Some(Place::Named), Some(Place::Ancestor)] {
+            let Some(refusal) = check.refusal(place) else { continue };
+            assert_eq!((refusal.check(), refusal.number()), (check, check as u64));
+            assert_eq!(refusal.place(), place);
+        }
+    }
+    let text = |refusal: Refusal| refusal.to_string();
+    assert_eq!(text(Refusal::Bounds), "refusal 8, out of bounds");
+    assert_eq!(text(Refusal::Dead(Place::Ancestor)), "refusal 4, dead line: an ancestor");
+    let error: Box<dyn std::error::Error> = Refusal::Lock.into();
+    assert_eq!(error.to_string(), "refusal 5, locked for another task");
+    assert_eq!(format!("{error:?}"), "refusal 5, locked for another task");
+}
+
+/// Every argument has a value of its own, and stands in its word; words that an operation does not
+/// use are zero.
+#[test]
+fn each_request_has_its_words() {
+    let (token, task, permissions, encoding) =
+        (Token(1), Task(3), Permissions::R | Permissions::W, Encoding::E3);
+    let (second, offset, length, user) = (Token(2), 2, 4, 5);
+    let all = [
+        Request::Reset { key: [1, 2], first_nonce: 3 }.words(),
+        Words::access(Operation::Read, token, task),
+        Words::access(Operation::Write, token, task),
+        Words::access(Operation::Fetch, token, task),
+        Request::Create { token, task, length, user, permissions, encoding }.words(),
+        Request::Merge { first: token, second, task, encoding }.words(),
+        Request::Derive { token, offset, length, permissions, encoding }.words(),
+        Request::ExecuteOnly { token, encoding }.words(),
+        Request::Clone { token }.words(),
+        Request::Drop { token }.words(),
+        Request::Lock { token, task }.words(),
+        Request::Unlock { token, task }.words(),
+        Request::Revoke { token, encoding }.words(),
+    ];
+    for (operation, words) in Operation::ALL.into_iter().zip(all) {
+        let values = [operation as u64, 1, 2, 3, 4, 5, 6, 3];
+        let used = |place| place == 0 || operation.uses(place);
+        let expected = std::array::from_fn(|place| if used(place) { values[place] } else { 0 });
+        assert_eq!(words.in_order(), expected, "{operation:?}");
+    }
+}

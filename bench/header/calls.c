@@ -1,0 +1,173 @@
+/* Every inline function of the header, in what C99 and C++ have in common. */
+#include "northbridge.h"
+
+#include <stdio.h>
+#include <string.h>
+
+#define CHECK(fact) check(fact, #fact, __LINE__)
+
+static int failures;
+
+static void check(int holds, const char *fact, int line)
+{
+    if (!holds) {
+        printf("header/calls.c:%d: %s\n", line, fact);
+        failures++;
+    }
+}
+
+static uint8_t table[8 * NORTHBRIDGE_ENTRY_SIZE];
+static uint8_t memory[65536];
+
+static struct northbridge begun(void)
+{
+    struct northbridge bridge = northbridge_over(table, sizeof table, memory, sizeof memory);
+    CHECK(northbridge_reset(&bridge, 0, 0, 1).refusal == NORTHBRIDGE_GRANTED);
+    return bridge;
+}
+
+/* Paper 01's session. */
+static void fifteen_cases(void)
+{
+    struct northbridge b = northbridge_over(table, 4 * NORTHBRIDGE_ENTRY_SIZE, memory, sizeof memory);
+    uint8_t buffer[12];
+    uint64_t child;
+    CHECK(northbridge_reset(&b, 0, 0, 1).refusal == 0);
+    CHECK(northbridge_read(&b, northbridge_at(0, 4096), 0, buffer, 12).refusal == 0);
+    CHECK(northbridge_read(&b, northbridge_at(0, 65535), 0, buffer, 1).refusal == 0);
+    CHECK(northbridge_read(&b, northbridge_at(0, 65536), 0, buffer, 1).refusal == NORTHBRIDGE_BOUNDS);
+    CHECK(northbridge_read(&b, northbridge_at(0, 65525), 0, buffer, 12).refusal == NORTHBRIDGE_BOUNDS);
+    child = northbridge_derive(&b, 0, 0, 65535, NORTHBRIDGE_R, 0).first;
+    CHECK(northbridge_derive(&b, 0, 0, 65536, NORTHBRIDGE_R, 0).refusal == NORTHBRIDGE_BOUNDS);
+    CHECK(northbridge_create(&b, 0, 0, 4096, 0, NORTHBRIDGE_R, 0).refusal == NORTHBRIDGE_STANDING);
+    CHECK(northbridge_lock(&b, 0, 0).refusal == NORTHBRIDGE_BAD_REQUEST);
+    CHECK(northbridge_lock(&b, 0, 7).refusal == 0);
+    CHECK(northbridge_read(&b, 0, 8, buffer, 1).refusal == NORTHBRIDGE_LOCKED);
+    CHECK(northbridge_drop(&b, 0).dropped == 0);
+    CHECK(northbridge_revoke(&b, 0, 0).refusal == 0);
+    CHECK(northbridge_read(&b, 0, 0, buffer, 1).refusal == NORTHBRIDGE_NO_ENTRY);
+    CHECK(northbridge_read(&b, child, 0, buffer, 1).refusal == NORTHBRIDGE_DEAD);
+    CHECK(northbridge_read(&b, child, 0, buffer, 1).place == 1);
+    CHECK(northbridge_drop(&b, child).dropped == 1);
+}
+
+/* Each operation granted, and each of its arguments in its place. */
+static void operations(void)
+{
+    struct northbridge b = begun();
+    static const uint8_t record[12] = {1, 2, 3, 4, 5, 6, 7, 8, 9, 10, 11, 12}; /* a write only reads it */
+    uint8_t buffer[12] = {0};
+    struct northbridge_answer made = northbridge_create(&b, 0, 9, 4096, 77, NORTHBRIDGE_R | NORTHBRIDGE_W | NORTHBRIDGE_X, 2);
+    struct northbridge_answer child, code;
+    CHECK(made.refusal == 0 && northbridge_fields_of(made.first).number == 1 && northbridge_fields_of(made.second).number == 0);
+    CHECK(northbridge_fields_of(made.first).encoding == 2 && northbridge_fields_of(made.second).encoding == 2);
+    CHECK(northbridge_write(&b, northbridge_at(made.first, 24), 0, record, sizeof record).refusal == 0);
+    CHECK(!memcmp(memory + 24, record, sizeof record));
+    CHECK(northbridge_read(&b, northbridge_at(made.first, 24), 0, buffer, sizeof buffer).refusal == 0);
+    CHECK(!memcmp(buffer, record, sizeof record));
+    child = northbridge_derive(&b, made.first, 24, 36, NORTHBRIDGE_R | NORTHBRIDGE_X, 3);
+    CHECK(child.refusal == 0 && northbridge_fields_of(child.first).encoding == 3);
+    CHECK(northbridge_fetch(&b, child.first, 0, buffer, 4).refusal == 0 && !memcmp(buffer, record, 4));
+    CHECK(northbridge_write(&b, child.first, 0, record, 1).refusal == NORTHBRIDGE_RIGHT);
+    CHECK(northbridge_read(&b, northbridge_at(child.first, 35), 0, buffer, 1).refusal == 0);
+    CHECK(northbridge_read(&b, northbridge_at(child.first, 36), 0, buffer, 1).refusal == NORTHBRIDGE_BOUNDS);
+    code = northbridge_execute_only(&b, child.first, 1);
+    CHECK(code.refusal == 0 && northbridge_fields_of(code.first).encoding == 1);
+    CHECK(northbridge_read(&b, code.first, 0, buffer, 1).refusal == NORTHBRIDGE_RIGHT);
+    CHECK(northbridge_clone(&b, code.first).refusal == 0);
+    CHECK(northbridge_drop(&b, code.first).dropped == 0);
+    CHECK(northbridge_drop(&b, code.first).dropped == 1);
+    CHECK(northbridge_lock(&b, child.first, 5).refusal == 0);
+    CHECK(northbridge_fetch(&b, child.first, 6, buffer, 1).refusal == NORTHBRIDGE_LOCKED);
+    CHECK(northbridge_write(&b, made.first, 5, record, 1).refusal == 0);
+    CHECK(northbridge_unlock(&b, child.first, 6).refusal == NORTHBRIDGE_LOCKED);
+    CHECK(northbridge_unlock(&b, child.first, 5).refusal == 0);
+    CHECK(northbridge_merge(&b, made.first, made.second, 0, 0).refusal == NORTHBRIDGE_STANDING);
+    made.first = northbridge_revoke(&b, made.first, 1).first;
+    CHECK(northbridge_fields_of(made.first).encoding == 1 && memory[24] == 0);
+    CHECK(northbridge_merge(&b, made.second, made.first, 0, 0).refusal == NORTHBRIDGE_BOUNDS);
+    made = northbridge_merge(&b, made.first, made.second, 0, 3);
+    CHECK(made.refusal == 0 && northbridge_fields_of(made.first).number == 1 && northbridge_fields_of(made.first).encoding == 3);
+    made = northbridge_create(&b, made.first, 0, sizeof memory, 0, NORTHBRIDGE_R, 0);
+    CHECK(made.refusal == 0 && made.second == 0);
+}
+
+/* Paper 01's packed tokens, and what has no room. */
+static void tokens(void)
+{
+    struct northbridge_fields fields;
+    uint64_t word;
+    fields.tag = 0x1234;
+    fields.number = 5;
+    fields.offset = 0;
+    for (fields.encoding = 0; fields.encoding < 4; fields.encoding++) {
+        struct northbridge_fields again = northbridge_fields_of(northbridge_token_of(fields));
+        CHECK(again.encoding == fields.encoding && again.tag == 0x1234 && again.number == 5 && again.offset == 0);
+    }
+    CHECK(northbridge_token_of(fields) == NORTHBRIDGE_NO_TOKEN);
+    fields.encoding = 0;
+    word = northbridge_token_of(fields);
+    CHECK(northbridge_at(word, 12) == ((uint64_t)0x048D0005 << 32 | 0x0000000C));
+    CHECK(northbridge_at(northbridge_at(word, 8), 4) == northbridge_at(word, 12));
+    CHECK(northbridge_at(word, 0xffffffff) != NORTHBRIDGE_NO_TOKEN);
+    CHECK(northbridge_at(northbridge_at(word, 1), 0xffffffff) == NORTHBRIDGE_NO_TOKEN);
+    CHECK(northbridge_at(word, (uint64_t)1 << 32) == NORTHBRIDGE_NO_TOKEN);
+    fields.encoding = 2;
+    word = northbridge_token_of(fields);
+    CHECK(northbridge_at(word, 12) == ((uint64_t)0x848D0000 << 32 | 0x0005000C));
+    CHECK(northbridge_at(word, 65535) != NORTHBRIDGE_NO_TOKEN && northbridge_at(word, 65536) == NORTHBRIDGE_NO_TOKEN);
+    fields.encoding = 3;
+    CHECK(northbridge_at(northbridge_token_of(fields), 12) == ((uint64_t)0xC48D0000 << 32 | 0x0500000C));
+    fields.encoding = 1;
+    CHECK(northbridge_token_of(fields) == ((uint64_t)0x448D0000 << 32 | 5));
+    CHECK(northbridge_at(northbridge_token_of(fields), 0) == northbridge_token_of(fields));
+    CHECK(northbridge_at(northbridge_token_of(fields), 1) == NORTHBRIDGE_NO_TOKEN);
+    fields.number = (uint64_t)1 << 46;
+    CHECK(northbridge_token_of(fields) == NORTHBRIDGE_NO_TOKEN);
+    fields.number = 5;
+    fields.tag = 0x10000;
+    CHECK(northbridge_token_of(fields) == NORTHBRIDGE_NO_TOKEN);
+}
+
+/* The word for no token is refused wherever a token is named; so is what is not lent. */
+static void refused(void)
+{
+    struct northbridge b = begun();
+    uint8_t buffer[1] = {0};
+    uint64_t operation;
+    for (operation = NORTHBRIDGE_READ; operation <= NORTHBRIDGE_REVOKE; operation++) {
+        struct northbridge_request request = northbridge_request_of(operation, NORTHBRIDGE_NO_TOKEN);
+        northbridge_set(&request, NORTHBRIDGE_TASK, 1);
+        northbridge_set(&request, NORTHBRIDGE_LENGTH, 1);
+        CHECK(northbridge_ask(&b, &request, buffer, 1).refusal != 0);
+    }
+    CHECK(northbridge_merge(&b, 0, NORTHBRIDGE_NO_TOKEN, 0, 0).refusal != 0);
+    CHECK(northbridge_read(&b, NORTHBRIDGE_NO_TOKEN, 0, buffer, 1).refusal == NORTHBRIDGE_NO_ENTRY);
+    CHECK(northbridge_read(&b, 0, 0, NULL, 0).refusal == NORTHBRIDGE_BAD_REQUEST);
+    CHECK(northbridge_read(&b, 0, 0, NULL, 1).refusal == NORTHBRIDGE_BAD_REQUEST);
+    CHECK(northbridge_write(&b, 0, 0, NULL, 1).refusal == NORTHBRIDGE_BAD_REQUEST);
+    b.memory = NULL;
+    CHECK(northbridge_read(&b, 0, 0, buffer, 1).refusal == NORTHBRIDGE_BAD_REQUEST);
+    b = northbridge_over(NULL, sizeof table, memory, sizeof memory);
+    CHECK(northbridge_reset(&b, 0, 0, 1).refusal == NORTHBRIDGE_BAD_REQUEST);
+}
+
+/* The texts, for the test that holds them to the bridge's words. */
+static void texts(void)
+{
+    uint64_t refusal;
+    for (refusal = 0; refusal <= NORTHBRIDGE_NO_NONCE + 1; refusal++) {
+        printf("%d %s\n", (int)refusal, northbridge_refusal_text(refusal));
+    }
+    printf("version %d\n", NORTHBRIDGE_VERSION);
+}
+
+int main(void)
+{
+    fifteen_cases();
+    operations();
+    tokens();
+    refused();
+    texts();
+    return failures != 0;
+}

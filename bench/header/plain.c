@@ -1,0 +1,68 @@
+/* The plain declarations, which C89 takes too: paper 01's first case by bytes alone, and null pointers with length 0. */
+#include "northbridge.h"
+
+#include <stdio.h>
+#include <string.h>
+
+/* The slices in the order of the interface. */
+enum { REQUEST, STATE, TABLE, MEMORY, BUFFER, ANSWER, SLICES };
+
+static uint8_t bytes[SLICES][65536];
+static const size_t sizes[SLICES] = {
+    NORTHBRIDGE_REQUEST_SIZE, NORTHBRIDGE_STATE_SIZE, 4 * NORTHBRIDGE_ENTRY_SIZE, 65536, 12, NORTHBRIDGE_ANSWER_SIZE
+};
+
+/* Serves what the request holds; the slices of a set bit are null, with length 0. */
+static uint64_t serve(unsigned nulls)
+{
+    uint8_t *p[SLICES];
+    size_t n[SLICES];
+    int i;
+    for (i = 0; i < SLICES; i++) {
+        p[i] = nulls >> i & 1 ? NULL : bytes[i];
+        n[i] = nulls >> i & 1 ? 0 : sizes[i];
+    }
+    return northbridge_serve(p[0], n[0], p[1], n[1], p[2], n[2], p[3], n[3], p[4], n[4], p[5], n[5]);
+}
+
+static void ask(unsigned operation, unsigned task)
+{
+    memset(bytes[REQUEST], 0, sizeof bytes[REQUEST]);
+    bytes[REQUEST][8 * NORTHBRIDGE_OPERATION] = (uint8_t)operation;
+    bytes[REQUEST][8 * NORTHBRIDGE_TASK] = (uint8_t)task;
+}
+
+static int fail(const char *what, unsigned operation, unsigned nulls)
+{
+    printf("header/plain.c: %s, operation %u, null slices %u\n", what, operation, nulls);
+    return 1;
+}
+
+int main(void)
+{
+    static uint8_t before[SLICES][65536];
+    const unsigned needed = 1 << REQUEST | 1 << STATE | 1 << TABLE | 1 << MEMORY | 1 << ANSWER;
+    unsigned operation, nulls;
+    ask(NORTHBRIDGE_RESET, 1);
+    if (serve(0) != NORTHBRIDGE_GRANTED) return fail("not granted", 0, 0);
+    ask(NORTHBRIDGE_READ, 0);
+    if (serve(0) != NORTHBRIDGE_GRANTED) return fail("not granted", 1, 0);
+    /* Whatever else is null, a missing part is refused and nothing is written but an answer. */
+    for (operation = 0; operation <= 14; operation++) {
+        for (nulls = 1; nulls < 1 << SLICES; nulls++) {
+            if (!(nulls & needed)) continue;
+            ask(operation, 1);
+            memcpy(before, bytes, sizeof bytes);
+            if (serve(nulls) != NORTHBRIDGE_BAD_REQUEST) return fail("not refusal 1", operation, nulls);
+            if (memcmp(before, bytes, ANSWER * sizeof bytes[0])) return fail("bytes changed", operation, nulls);
+        }
+    }
+    /* Without a buffer an access is refused, and the others are served. */
+    for (operation = NORTHBRIDGE_READ; operation <= NORTHBRIDGE_FETCH; operation++) {
+        ask(operation, 1);
+        if (serve(1 << BUFFER) != NORTHBRIDGE_BAD_REQUEST) return fail("not refusal 1", operation, 1 << BUFFER);
+    }
+    ask(NORTHBRIDGE_LOCK, 1);
+    if (serve(1 << BUFFER) != NORTHBRIDGE_GRANTED) return fail("not granted", NORTHBRIDGE_LOCK, 1 << BUFFER);
+    return 0;
+}
