@@ -326,7 +326,7 @@ lastNonces = record {
       ∷ [];
 }
 
--- a revoke that passes over a nonce, with which the old tag would come back; and one that has no other nonce left
+-- a full table: no create; a revoke that passes over a nonce, with which the old tag would come back
 abbrev passedOver : Session
 passedOver = record {
   memory = 8;
@@ -336,7 +336,8 @@ passedOver = record {
       ∷ 0x200000008000000080000000000000000000000000000000003adf0200000002
       ∷ [];
   rows =
-      grants (plain (revoke 0x37c0800100000000 0)) (0x922c00100000000 ∷ []) 0 0 11 (store 4 (zeros 4))
+      refuses (plain (create 0 0 8 0 7 0)) 10 0 0 9
+      ∷ grants (plain (revoke 0x37c0800100000000 0)) (0x922c00100000000 ∷ []) 0 0 11 (store 4 (zeros 4))
       ∷ [];
   left =
       0x200000000000000100000000000000000000000000000000003a000000000001
