@@ -8,9 +8,10 @@ use std::thread::sleep;
 use std::time::Duration;
 
 use bridge::{Reply, State, Words};
+use session::server::{Server, Trouble};
 use session::World;
 
-use crate::machine::{Machine, Trouble};
+use crate::machine::Machine;
 use crate::protocol::{self, GREETING, PIECE};
 
 /// How long a program may keep silent, in milliseconds: before its greeting, and then.
@@ -343,6 +344,28 @@ impl Simulator {
             }
         }
         result
+    }
+}
+
+/// In a replay it works on a world of its own, which is shown after each request.
+impl Server for Simulator {
+    fn begin(&mut self, world: &World) -> Result<(), Trouble> {
+        Machine::begin(self, world)
+    }
+
+    fn longest(&self) -> usize {
+        PIECE
+    }
+
+    fn serve(
+        &mut self,
+        request: &Words,
+        world: &mut World,
+        buffer: &mut [u8],
+    ) -> Result<Reply, Trouble> {
+        let reply = Machine::serve(self, request, buffer)?;
+        world.replace(&self.shown);
+        Ok(reply)
     }
 }
 

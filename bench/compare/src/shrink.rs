@@ -4,11 +4,11 @@
 
 use bridge::{Operation, State, Words};
 use session::entry::SIZE;
+use session::server::Trouble;
 use session::World;
 
 use crate::difference::Difference;
 use crate::draft::{Draft, Part, Source};
-use crate::machine::Trouble;
 use crate::pair::Pair;
 use crate::player::Found;
 

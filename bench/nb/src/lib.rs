@@ -4,8 +4,10 @@ pub mod answer;
 pub mod arguments;
 pub mod command;
 pub mod commands;
+pub mod files;
 pub mod map;
 pub mod outcome;
+pub mod report;
 pub mod stored;
 pub mod style;
 

@@ -1,23 +1,61 @@
 //! Playing a script: asking its requests one by one, and comparing what is expected.
 
 use crate::entry::Entry;
-use crate::server::Server;
+use crate::server::{Server, Trouble};
 use crate::text::{
     changes, print_standing, token_text, Ask, EntryLine, Expected, Names, Script, Standing,
     Unresolved, Word,
 };
 use crate::world::World;
 use bridge::{refusal_words, Place, Reply, Words};
+use std::fmt;
 
 /// What came of one request.
 #[derive(Clone, Debug, PartialEq, Eq)]
 pub struct Played {
+    /// What stood before it.
+    pub before: World,
     pub request: Words,
     pub reply: Reply,
     /// What stands in the buffer afterwards.
     pub buffer: Vec<u8>,
     pub changes: Vec<Standing>,
     pub differences: Vec<Difference>,
+}
+
+/// Why a request has no answer.
+#[derive(Clone, Debug, PartialEq, Eq)]
+pub enum NoAnswer {
+    /// It was not asked, since a name in it stands for no token.
+    Unresolved(Unresolved),
+    /// It was not asked, since such a buffer cannot be lent to who serves.
+    TooLong { length: usize, longest: usize },
+    /// It was asked in vain.
+    Trouble(Trouble),
+}
+
+impl From<Unresolved> for NoAnswer {
+    fn from(unresolved: Unresolved) -> NoAnswer {
+        NoAnswer::Unresolved(unresolved)
+    }
+}
+
+impl From<Trouble> for NoAnswer {
+    fn from(trouble: Trouble) -> NoAnswer {
+        NoAnswer::Trouble(trouble)
+    }
+}
+
+impl fmt::Display for NoAnswer {
+    fn fmt(&self, to: &mut fmt::Formatter) -> fmt::Result {
+        match self {
+            NoAnswer::Unresolved(unresolved) => write!(to, "not asked: {unresolved}"),
+            NoAnswer::TooLong { length, longest } => {
+                write!(to, "not asked: its buffer has {length} bytes, of at most {longest}")
+            }
+            NoAnswer::Trouble(trouble) => write!(to, "no answer: {}", trouble.message()),
+        }
+    }
 }
 
 /// Something that is not as expected.
@@ -36,29 +74,40 @@ impl Difference {
 }
 
 /// A script that is being played.
-pub struct Player<'a, S> {
+pub struct Player<'a, S: ?Sized> {
     server: &'a mut S,
     exact: bool,
+    /// Whether the server has taken over the world.
+    begun: bool,
     pub world: World,
     pub names: Names,
 }
 
-impl<'a, S: Server> Player<'a, S> {
+impl<'a, S: Server + ?Sized> Player<'a, S> {
     pub fn new(script: &Script, server: &'a mut S) -> Player<'a, S> {
-        Player { server, exact: script.exact, world: script.world(), names: Names::new() }
+        let (exact, begun) = (script.exact, false);
+        Player { server, exact, begun, world: script.world(), names: Names::new() }
     }
 
     /// Asks one request. A request with a name that nobody gave is not asked.
-    pub fn play(&mut self, ask: &Ask) -> Result<Played, Unresolved> {
+    pub fn play(&mut self, ask: &Ask) -> Result<Played, NoAnswer> {
         let request = ask.resolve(&self.names)?;
+        let (length, longest) = (ask.buffer.len(), self.server.longest());
+        if length > longest {
+            return Err(NoAnswer::TooLong { length, longest });
+        }
+        if !self.begun {
+            self.server.begin(&self.world)?;
+            self.begun = true;
+        }
         let before = self.world.clone();
         let mut buffer = ask.buffer.clone();
-        let reply = self.server.serve(&request, &mut self.world, &mut buffer);
+        let reply = self.server.serve(&request, &mut self.world, &mut buffer)?;
         ask.add_names(Some(&reply), &mut self.names);
         let mut differences = self.answer_differences(ask, &reply, &buffer);
         differences.extend(self.standing_differences(ask, &before));
         let changes = changes(&before, &self.world);
-        Ok(Played { request, reply, buffer, changes, differences })
+        Ok(Played { before, request, reply, buffer, changes, differences })
     }
 
     /// Where answer and buffer are not as expected.
@@ -157,7 +206,7 @@ pub fn record<S: Server>(script: &Script, server: &mut S) -> Result<Script, NotR
     for ask in &mut recorded.asks {
         let played = player
             .play(ask)
-            .map_err(|unresolved| NotRecorded::Unresolved { line: ask.line, unresolved })?;
+            .map_err(|no_answer| NotRecorded::NoAnswer { line: ask.line, no_answer })?;
         if !played.differences.is_empty() {
             let differences = played.differences;
             return Err(NotRecorded::Differs { line: ask.line, differences });
@@ -170,7 +219,7 @@ pub fn record<S: Server>(script: &Script, server: &mut S) -> Result<Script, NotR
 /// Why a script was not recorded.
 #[derive(Clone, Debug, PartialEq, Eq)]
 pub enum NotRecorded {
-    Unresolved { line: usize, unresolved: Unresolved },
+    NoAnswer { line: usize, no_answer: NoAnswer },
     Differs { line: usize, differences: Vec<Difference> },
 }
 

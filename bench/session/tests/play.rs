@@ -1,6 +1,6 @@
 //! Playing scripts: what is expected, and what is marked.
 
-use session::play::{goes_as_expected, record, Player};
+use session::play::{goes_as_expected, record, NoAnswer, Player};
 use session::server::Proved;
 use session::text::{parse, print_script, Script, Unresolved};
 
@@ -66,13 +66,14 @@ fn names_stand_for_what_is_given_or_stated() {
     let mut player = Player::new(&refused, &mut proved);
     assert!(player.play(&refused.asks[0]).is_ok());
     assert_eq!(player.play(&refused.asks[1]).unwrap().differences.len(), 1);
-    let not_given = Unresolved::NotGiven("child".to_string());
+    let not_given = NoAnswer::Unresolved(Unresolved::NotGiven("child".to_string()));
     assert_eq!(player.play(&refused.asks[2]), Err(not_given));
     let wide =
         script("derive root length 4 permissions R encoding 1 -> 0 as child\nread child+1 1");
     let mut player = Player::new(&wide, &mut proved);
     assert!(player.play(&wide.asks[0]).is_ok() && player.play(&wide.asks[1]).is_ok());
-    assert_eq!(player.play(&wide.asks[2]), Err(Unresolved::DoesNotFit("child".to_string())));
+    let no_room = Unresolved::DoesNotFit("child".to_string());
+    assert_eq!(player.play(&wide.asks[2]), Err(no_room.into()));
 }
 
 /// A recorded script fixes every byte: one bit changed anywhere in it is noticed.

@@ -90,7 +90,7 @@ pub fn recorded(stored: &Stored) -> Result<String, String> {
 
 fn not_recorded(reason: &NotRecorded) -> String {
     match reason {
-        NotRecorded::Unresolved { line, unresolved } => format!("line {line}: {unresolved}"),
+        NotRecorded::NoAnswer { line, no_answer } => format!("line {line}: {no_answer}"),
         NotRecorded::Differs { line, differences } => {
             let told = differences
                 .iter()
