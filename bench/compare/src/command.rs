@@ -11,8 +11,9 @@ use bridge::{Reply, State, Words};
 use session::server::{Server, Trouble};
 use session::World;
 
+use crate::line::{self, Read};
 use crate::machine::Machine;
-use crate::protocol::{self, GREETING, PIECE};
+use crate::protocol::{self, GREETING, LINE, PIECE};
 
 /// How long a program may keep silent, in milliseconds: before its greeting, and then.
 const START: i32 = 60_000;
@@ -90,8 +91,11 @@ impl Simulator {
                 Err(Trouble::Silent("the command keeps silent".to_string()))
             }
             Err(error) => Err(Trouble::Broken(format!("the command cannot be read: {error}"))),
-            Ok(false) => Err(self.ended()),
-            Ok(true) => Ok(text),
+            Ok(Read::Whole) => Ok(text),
+            Ok(Read::TooLong) => {
+                Err(malformed(&text, &format!("expected a line of at most {LINE} characters")))
+            }
+            Ok(Read::Part | Read::End) => Err(self.ended()),
         }
     }
 
@@ -184,7 +188,8 @@ fn pieces(command: &str, length: usize) -> impl Iterator<Item = String> + '_ {
 
 fn malformed(line: &str, expected: &str) -> Trouble {
     let start: String = line.chars().take(60).collect();
-    Trouble::Broken(format!("the command answered '{start}': {expected}"))
+    let more = if start.len() < line.len() { "..." } else { "" };
+    Trouble::Broken(format!("the command answered '{start}{more}': {expected}"))
 }
 
 impl Process {
@@ -203,19 +208,16 @@ impl Process {
         Ok(Process { child, input, output, patience: START })
     }
 
-    /// Reads a line; false at the end of the output.
-    fn read(&mut self, line: &mut Vec<u8>) -> io::Result<bool> {
+    /// Reads a line, without its end.
+    fn read(&mut self, line: &mut Vec<u8>) -> io::Result<Read> {
         loop {
             if self.output.buffer().is_empty() {
                 self.wait()?;
             }
-            let bytes = self.output.fill_buf()?;
-            let end = bytes.iter().position(|byte| *byte == b'\n');
-            let taken = end.map_or(bytes.len(), |end| end + 1);
-            line.extend_from_slice(&bytes[..taken]);
+            let (taken, read) = line::extend(line, self.output.fill_buf()?);
             self.output.consume(taken);
-            if taken == 0 || end.is_some() {
-                return Ok(end.is_some());
+            if read != Read::Part {
+                return Ok(read);
             }
         }
     }

@@ -14,6 +14,7 @@ mod fault;
 mod guard;
 mod kinds;
 mod limits;
+mod line;
 mod machine;
 mod pair;
 mod player;

@@ -96,6 +96,24 @@ fn bad_files_are_status_2_with_line_and_column() {
     assert!(error.contains("found 'tsak'"), "{error}");
 }
 
+/// What is read has a bound: a file without an end is told, and does not fill the machine.
+#[test]
+fn files_that_are_too_long_are_status_2() {
+    let (status, _, error) = run(&["replay", "/dev/zero"], "");
+    assert_eq!(status, 2);
+    let told = "nb: /dev/zero: expected a session file of at most 67108864 bytes, found more\n";
+    assert_eq!(error, told);
+    let folder = folder("bytes");
+    fs::create_dir_all(&folder).expect("a folder");
+    let file = folder.join("latin.session");
+    fs::write(&file, b"memory 64 entries 4 # \xe9\n").expect("a file");
+    let (status, _, error) = run(&["replay", &file.to_string_lossy()], "");
+    assert_eq!(status, 2);
+    let told = "expected text in UTF-8, found other bytes behind the first 22";
+    assert!(error.contains(told), "{error}");
+    let _ = fs::remove_dir_all(&folder);
+}
+
 #[test]
 fn agreement_is_status_0() {
     let (status, text, _) = run(&["replay", &stored("fifteen-cases.session")], "");

@@ -138,6 +138,14 @@ fn lines_that_go_on() {
     assert!(parse("memory 64 entries 4\r\nreset \\\r\n nonce 1 -> 0\r\n").is_ok());
 }
 
+/// A short text can stand for many bytes; all together have a bound.
+#[test]
+fn bytes_of_all_lines_together() {
+    let lines = "write root 00*67108864\n".repeat(4);
+    let text = format!("memory 64 entries 4\n{lines}write root 00*5\n");
+    holds(&text, (6, 1), "at most 268435456 bytes in all lines together", "'write'");
+}
+
 /// Columns count characters, not bytes.
 #[test]
 fn columns_count_characters() {

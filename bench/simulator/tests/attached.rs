@@ -65,6 +65,18 @@ fn an_end_in_the_middle_is_a_difference() {
     assert_eq!(outcome.found.expect("a difference").session.steps.len(), 1);
 }
 
+/// Nothing of such an answer is kept: what is read has a bound.
+#[test]
+fn an_answer_without_an_end_is_a_difference() {
+    let endless = "while read line; do case $line in serve*) yes x | tr -d '\\n';; \
+                   north*) echo $line;; *) echo ok;; esac; done";
+    let outcome = against(endless, 100).expect("a run");
+    let told = trouble(&outcome);
+    assert!(told.contains("'xxx") && told.contains("at most 16640 characters"), "{told}");
+    let error = against("yes x | tr -d '\\n'", 100).unwrap_err();
+    assert!(error.contains("at most 16640 characters"), "{error}");
+}
+
 #[test]
 fn a_command_that_is_not_there() {
     let error = against("./no-such-simulator 2> /dev/null", 10).unwrap_err();

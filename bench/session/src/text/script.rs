@@ -152,6 +152,14 @@ impl Word {
 }
 
 impl Standing {
+    /// How many bytes it states.
+    pub fn bytes(&self) -> usize {
+        match self {
+            Standing::State(_) | Standing::Entry { .. } => 0,
+            Standing::Table { bytes, .. } | Standing::Memory { bytes, .. } => bytes.len(),
+        }
+    }
+
     /// Makes it stand. Places lie inside the world that the text was read for.
     pub fn put(&self, world: &mut World) {
         match self {
@@ -191,6 +199,12 @@ impl Ask {
             expected: None,
             standing: Vec::new(),
         }
+    }
+
+    /// How many bytes its line gives.
+    pub fn bytes(&self) -> usize {
+        let stated = self.expected.as_ref().and_then(|expected| expected.buffer.as_ref());
+        self.buffer.len() + stated.map_or(0, Vec::len)
     }
 
     /// Puts a number at a place among the request's words.
