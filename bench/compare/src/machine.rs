@@ -14,6 +14,14 @@ pub trait Machine {
     /// Serves one request; the buffer is lent for the call and keeps its length.
     fn serve(&mut self, request: &Words, buffer: &mut [u8]) -> Result<Reply, Trouble>;
 
+    /// Whether it may remember sessions before the one at hand.
+    fn remembers(&self) -> bool {
+        false
+    }
+
+    /// Makes it forget all sessions; nothing to do for one that remembers none.
+    fn renew(&mut self) {}
+
     fn state(&self) -> State;
 
     fn table(&self) -> &[u8];

@@ -1,5 +1,7 @@
 //! The simulator attached to the bench, as it is and with what it says spoilt on the way.
 
+use std::time::Duration;
+
 use compare::{run, Difference, Options, Outcome};
 
 const SIMULATOR: &str = env!("CARGO_BIN_EXE_simulator");
@@ -75,6 +77,27 @@ fn an_answer_without_an_end_is_a_difference() {
     assert!(told.contains("'xxx") && told.contains("at most 16640 characters"), "{told}");
     let error = against("yes x | tr -d '\\n'", 100).unwrap_err();
     assert!(error.contains("at most 16640 characters"), "{error}");
+}
+
+/// The line that got no answer is told, and how long it was waited for.
+#[test]
+fn silence_is_a_difference() {
+    let against = Some(format!("sed -u '/^serve 9 /d' | '{SIMULATOR}'"));
+    let options = Options { requests: 3_000, against, ..Options::default() };
+    let outcome = run(&Options { wait: Duration::from_millis(300), ..options }).expect("a run");
+    let told = trouble(&outcome);
+    assert!(told.contains("kept silent for 0.3 s when asked 'serve 9 "), "{told}");
+    let first = outcome.first.as_ref().expect("a difference");
+    assert_eq!(first.found.session.steps.last().expect("a request").request.operation, 9);
+    assert!(first.again && outcome.to_string().contains("\n#   drop "), "{outcome}");
+}
+
+#[test]
+fn a_command_that_says_nothing_at_all() {
+    let options = Options { against: Some("sleep 1000".to_string()), ..Options::default() };
+    let error = run(&Options { wait: Duration::from_millis(300), ..options }).unwrap_err();
+    let told = "kept silent for 0.3 s when asked 'northbridge 1'";
+    assert!(error.contains(told) && error.contains("--wait"), "{error}");
 }
 
 #[test]

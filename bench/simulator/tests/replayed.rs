@@ -3,7 +3,7 @@
 use std::fs;
 use std::path::Path;
 
-use compare::Simulator;
+use compare::{Simulator, WAIT};
 use session::play::{NoAnswer, Played, Player};
 use session::text::{parse, Script};
 
@@ -27,7 +27,7 @@ fn replayed(script: &Script, simulator: &mut Simulator) -> Vec<Result<Played, No
 
 /// What came of each request of a text.
 fn played(text: &str, command: &str) -> Vec<Result<Played, NoAnswer>> {
-    let mut simulator = Simulator::start(command).expect("a simulator");
+    let mut simulator = Simulator::start(command, WAIT).expect("a simulator");
     replayed(&parse(text).expect("a session"), &mut simulator)
 }
 
@@ -36,7 +36,8 @@ const TEXT: &str = "memory 64 entries 4\nreset nonce 1 -> 0\nclone root -> 0\n= 
 
 #[test]
 fn every_stored_session_goes_as_expected() {
-    let mut simulator = Simulator::start(&format!("exec '{SIMULATOR}'")).expect("a simulator");
+    let command = format!("exec '{SIMULATOR}'");
+    let mut simulator = Simulator::start(&command, WAIT).expect("a simulator");
     let mut too_long = Vec::new();
     for (name, script) in stored() {
         for (ask, played) in script.asks.iter().zip(replayed(&script, &mut simulator)) {

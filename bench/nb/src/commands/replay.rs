@@ -1,6 +1,7 @@
 //! `nb replay`: asks the requests of session files and marks what differs.
 
 use std::io::Write;
+use std::time::Duration;
 
 use crate::arguments::Arguments;
 use crate::command::Command;
@@ -23,7 +24,7 @@ pub const COMMAND: Command = Command {
 };
 
 const HELP: &str = "\
-nb replay [--map] [--brief] [--by proved|model | --against COMMAND] FILE...
+nb replay [--map] [--brief] [--by proved|model | --against COMMAND [--wait SECONDS]] FILE...
 
 Asks the requests of each session file in turn, prints each answer, and marks what differs from what
 the file expects. docs/SESSIONS.md describes the files. '-' reads the standard input.
@@ -36,6 +37,7 @@ the file expects. docs/SESSIONS.md describes the files. '-' reads the standard i
     --against COMMAND    a simulator answers: a command for the shell that speaks the line protocol
                          of 'nb serve' on its standard input and output. An access of more bytes
                          than a line of it holds, 8192, is not asked: it can only be refused
+    --wait SECONDS       how long the command may take for an answer (10)
 
 For example:
 
@@ -62,7 +64,7 @@ struct Options {
 enum Who {
     Proved,
     Model,
-    Command(String),
+    Command(String, Duration),
 }
 
 fn run(mut arguments: Arguments, out: &mut dyn Write) -> Result<Verdict, Failure> {
@@ -82,10 +84,11 @@ fn run(mut arguments: Arguments, out: &mut dyn Write) -> Result<Verdict, Failure
 impl Who {
     fn read(arguments: &mut Arguments) -> Result<Who, Failure> {
         let (by, against) = (arguments.value("--by")?, arguments.value("--against")?);
+        let wait = arguments.wait()?;
         let expected = match (by.as_deref(), against) {
             (None | Some("proved"), None) => return Ok(Who::Proved),
             (Some("model"), None) => return Ok(Who::Model),
-            (None, Some(command)) => return Ok(Who::Command(command)),
+            (None, Some(command)) => return Ok(Who::Command(command, wait)),
             (Some(by), None) => format!("'proved' or 'model' behind --by, found '{by}'"),
             (Some(_), Some(_)) => "--by or --against, found both".to_string(),
         };
@@ -96,8 +99,8 @@ impl Who {
         match self {
             Who::Proved => Ok(Box::new(Proved)),
             Who::Model => Ok(Box::new(Model)),
-            Who::Command(command) => {
-                let simulator = Simulator::start(&command);
+            Who::Command(command, wait) => {
+                let simulator = Simulator::start(&command, wait);
                 Ok(Box::new(simulator.map_err(|why| Failure::Input(format!("replay: {why}")))?))
             }
         }
