@@ -2,6 +2,7 @@
 
 pub mod answer;
 pub mod arguments;
+pub mod cause;
 pub mod command;
 pub mod commands;
 pub mod files;

@@ -27,7 +27,8 @@ const HELP: &str = "\
 nb replay [--map] [--brief] [--by proved|model | --against COMMAND [--wait SECONDS]] FILE...
 
 Asks the requests of each session file in turn, prints each answer, and marks what differs from what
-the file expects. docs/SESSIONS.md describes the files. '-' reads the standard input.
+the file expects. Of a bad request (refusal 1) it also tells what is bad in it; the answer itself is 1
+and no more. docs/SESSIONS.md describes the files. '-' reads the standard input.
 
     --map                draws what stands at the end: segments in address order, owners, lines of
                          derived entries, locks, gaps and overlaps
