@@ -34,6 +34,9 @@ fn text(bytes: Vec<u8>) -> Result<String, String> {
     if bytes.len() as u64 > LONGEST {
         return Err(format!("expected a session file of at most {LONGEST} bytes, found more"));
     }
+    if bytes.starts_with(&[0xFF, 0xFE]) || bytes.starts_with(&[0xFE, 0xFF]) {
+        return Err("expected text in UTF-8, found a byte order mark of UTF-16".to_string());
+    }
     String::from_utf8(bytes).map_err(|error| {
         let at = error.utf8_error().valid_up_to();
         format!("expected text in UTF-8, found other bytes behind the first {at}")

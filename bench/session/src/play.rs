@@ -6,8 +6,9 @@ use crate::text::{
     changes, print_standing, token_text, Ask, EntryLine, Expected, Names, Script, Standing,
     Unresolved, Word,
 };
+use crate::token::Token;
 use crate::world::World;
-use bridge::{refusal_words, Place, Reply, Words};
+use bridge::{refusal_words, Operation, Place, Reply, Words};
 use std::fmt;
 
 /// What came of one request.
@@ -103,8 +104,10 @@ impl<'a, S: Server + ?Sized> Player<'a, S> {
         let before = self.world.clone();
         let mut buffer = ask.buffer.clone();
         let reply = self.server.serve(&request, &mut self.world, &mut buffer)?;
-        ask.add_names(Some(&reply), &mut self.names);
+        let given = given(&request, &reply, &self.world);
+        ask.add_names(given, &mut self.names);
         let mut differences = self.answer_differences(ask, &reply, &buffer);
+        differences.extend(nothing_to_name(ask, &reply, given));
         differences.extend(self.standing_differences(ask, &before));
         let changes = changes(&before, &self.world);
         Ok(Played { before, request, reply, buffer, changes, differences })
@@ -180,6 +183,34 @@ impl<'a, S: Server + ?Sized> Player<'a, S> {
         });
         stated.collect()
     }
+}
+
+/// The tokens that an answer gives. A token may be 0, so that its word does not tell: the second one,
+/// a create's rest, is given if the named entry is still in use.
+fn given(request: &Words, reply: &Reply, after: &World) -> [Option<u64>; 2] {
+    let operation = Operation::of(request.operation).filter(|_| reply.refusal == 0);
+    let tokens = operation.map_or(0, |operation| operation.tokens().len());
+    let named = Token::unpack(request.token).number as usize;
+    let rest = tokens == 2 && !Entry::of(&after.table, named).is_free();
+    [Some(reply.first).filter(|_| tokens > 0), Some(reply.second).filter(|_| rest)]
+}
+
+/// Names for tokens that a granted request did not give.
+fn nothing_to_name(ask: &Ask, reply: &Reply, given: [Option<u64>; 2]) -> Vec<Difference> {
+    let Some(expected) = ask.expected.as_ref().filter(|_| reply.refusal == 0) else {
+        return Vec::new();
+    };
+    let names = expected.names.iter().zip(given).zip(["first token", "second token"]);
+    let without = names.filter_map(|((name, given), what)| match (name, given) {
+        (Some(name), None) => Some((name, what)),
+        _ => None,
+    });
+    let difference = |(name, what): (&String, &str)| Difference {
+        what: what.to_string(),
+        expected: format!("one for '{name}'"),
+        given: "none".to_string(),
+    };
+    without.map(difference).collect()
 }
 
 fn place_text(place: u64) -> String {

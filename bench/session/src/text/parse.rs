@@ -16,8 +16,15 @@ const TOGETHER: usize = 4 * LIMIT;
 
 const HEAD: &str = "the first line: 'memory BYTES entries NUMBER'";
 
+/// What some editors put before a text.
+const BYTE_ORDER_MARK: char = '\u{feff}';
+
 /// Reads a session's text.
 pub fn parse(text: &str) -> Result<Script, Error> {
+    if text.starts_with(BYTE_ORDER_MARK) {
+        let found = "a byte order mark, which the editor must be told to leave out".to_string();
+        return Err(Error { line: 1, column: 1, expected: HEAD.to_string(), found });
+    }
     let lines = lines::lines(text)?;
     let (last, lines) = lines.split_last().expect("there is always a last line");
     let mut reader = Reader::default();
