@@ -29,6 +29,8 @@ pub struct Simulator {
     process: Option<Process>,
     /// The lines that it has not answered yet, by their fronts.
     asked: VecDeque<String>,
+    /// The line whose answer is read.
+    answered: String,
     /// How many sessions this process was asked.
     sessions: usize,
     shown: World,
@@ -39,8 +41,9 @@ impl Simulator {
     /// Starts the command by the shell; an error says why it cannot be compared with.
     pub fn start(command: &str, wait: Duration) -> Result<Simulator, String> {
         let (command, process, asked) = (command.to_string(), None, VecDeque::new());
-        let (shown, line) = (World::zeros(0, 0), Vec::new());
-        let mut simulator = Simulator { command, wait, process, asked, sessions: 0, shown, line };
+        let (answered, shown, line) = (String::new(), World::zeros(0, 0), Vec::new());
+        let mut simulator =
+            Simulator { command, wait, process, asked, answered, sessions: 0, shown, line };
         simulator.greet().map_err(|trouble| trouble.message().to_string())?;
         Ok(simulator)
     }
@@ -82,29 +85,37 @@ impl Simulator {
     fn receive(&mut self) -> Result<String, Trouble> {
         let (mut line, wait) = (std::mem::take(&mut self.line), self.wait);
         line.clear();
-        let asked = self.asked.pop_front().unwrap_or_default();
+        self.answered = self.asked.pop_front().unwrap_or_default();
         let read = self.process()?.read(&mut line, wait);
         let text = String::from_utf8_lossy(&line).trim_end().to_string();
         self.line = line;
         match read {
-            Err(error) if error.kind() == io::ErrorKind::TimedOut => Err(silent(&asked, wait)),
+            Err(error) if error.kind() == io::ErrorKind::TimedOut => {
+                Err(silent(&self.answered, wait))
+            }
             Err(error) => Err(Trouble::Broken(format!("the command cannot be read: {error}"))),
             Ok(Read::Whole) => Ok(text),
             Ok(Read::TooLong) => {
-                Err(malformed(&text, &format!("expected a line of at most {LINE} characters")))
+                Err(self.malformed(&text, &format!("expected a line of at most {LINE} characters")))
             }
-            Ok(Read::Part | Read::End) => Err(self.ended(&asked)),
+            Ok(Read::Part | Read::End) => Err(self.ended()),
         }
     }
 
     /// The program has closed its output, or no longer reads.
-    fn ended(&mut self, asked: &str) -> Trouble {
+    fn ended(&mut self) -> Trouble {
         let status = self.process.take().and_then(Process::end);
         let how = status.map_or(String::new(), |status| format!(" ({status})"));
-        let command = &self.command;
+        let (command, asked) = (&self.command, &self.answered);
         Trouble::Broken(format!(
             "the command '{command}' ended without an answer to '{asked}'{how}"
         ))
+    }
+
+    /// What was answered last is not what was expected.
+    fn malformed(&self, line: &str, expected: &str) -> Trouble {
+        let (line, asked) = (shortened(line), &self.answered);
+        Trouble::Broken(format!("the command answered '{line}' to '{asked}': {expected}"))
     }
 
     fn expect(&mut self, wanted: &str) -> Result<(), Trouble> {
@@ -112,7 +123,7 @@ impl Simulator {
         if line == wanted {
             return Ok(());
         }
-        Err(malformed(&line, &format!("expected {wanted}")))
+        Err(self.malformed(&line, &format!("expected {wanted}")))
     }
 
     /// Puts bytes into the program's table or memory, as far as they are not zero.
@@ -132,7 +143,7 @@ impl Simulator {
     /// Reads what was asked for into a place.
     fn take(&mut self, place: &mut [u8]) -> Result<(), Trouble> {
         let line = self.receive()?;
-        protocol::parse_bytes(&line, place).map_err(|expected| malformed(&line, &expected))
+        protocol::parse_bytes(&line, place).map_err(|expected| self.malformed(&line, &expected))
     }
 
     /// Asks for every byte of table and memory. The first of these lines go out with the request
@@ -145,7 +156,7 @@ impl Simulator {
         self.send_all(request, &lines[..first])?;
         let answer = self.receive()?;
         if !answer.starts_with("answer ") {
-            return Err(malformed(&answer, protocol::ANSWER));
+            return Err(self.malformed(&answer, protocol::ANSWER));
         }
         let mut shown = std::mem::replace(&mut self.shown, World::zeros(0, 0));
         let World { table, memory, .. } = &mut shown;
@@ -190,10 +201,6 @@ fn pieces(command: &str, length: usize) -> impl Iterator<Item = String> + '_ {
 /// The front of a line that was sent.
 fn front(line: &[u8]) -> String {
     shortened(&String::from_utf8_lossy(&line[..line.len().min(200)]))
-}
-
-fn malformed(line: &str, expected: &str) -> Trouble {
-    Trouble::Broken(format!("the command answered '{}': {expected}", shortened(line)))
 }
 
 fn silent(asked: &str, wait: Duration) -> Trouble {
@@ -261,10 +268,10 @@ impl Machine for Simulator {
 impl Simulator {
     fn read_answer(&mut self, line: &str, buffer: &mut [u8]) -> Result<Reply, Trouble> {
         let read = protocol::parse_answer(line);
-        let (reply, state, bytes) = read.map_err(|expected| malformed(line, &expected))?;
+        let (reply, state, bytes) = read.map_err(|expected| self.malformed(line, &expected))?;
         if bytes.len() != buffer.len() {
             let expected = format!("expected a buffer of {} bytes", buffer.len());
-            return Err(malformed(line, &expected));
+            return Err(self.malformed(line, &expected));
         }
         buffer.copy_from_slice(&bytes);
         self.shown.state = state;

@@ -31,13 +31,15 @@ pub struct Options {
     pub kind: Option<String>,
     /// Prints how often each operation, refusal and place was reached.
     pub coverage: bool,
+    /// Shrinks what it finds, after it has come again.
+    pub shrink: bool,
 }
 
 impl Default for Options {
     fn default() -> Self {
         let (against, guard, kind) = (None, None, None);
         let (requests, seed, wait) = (1_000_000, 1, WAIT);
-        Options { requests, seed, against, wait, guard, kind, coverage: false }
+        Options { requests, seed, against, wait, guard, kind, coverage: false, shrink: true }
     }
 }
 
@@ -66,8 +68,9 @@ pub struct First {
     /// The run that comes to it again.
     pub requests: u64,
     pub seed: u64,
-    /// Whether the session alone shows it again, in a fresh process if there is one.
-    pub again: bool,
+    /// Whether the session alone shows it again, in a fresh process if there is one; none if it was
+    /// not tried.
+    pub again: Option<bool>,
 }
 
 impl Outcome {
@@ -114,9 +117,10 @@ pub fn compare(options: &Options, mut pair: Pair) -> Result<Outcome, String> {
         first = found.map(|found| (found, kind.name));
     }
     let (time, sessions) = (start.elapsed(), progress.sessions);
-    let shrunk = first.as_ref().map(|(found, _)| shrink(&mut pair, found, &mut progress));
+    let wanted = first.as_ref().filter(|_| options.shrink);
+    let shrunk = wanted.map(|(found, _)| shrink(&mut pair, found, &mut progress));
     progress.end();
-    let again = shrunk.as_ref().is_some_and(Option::is_some);
+    let again = shrunk.as_ref().map(Option::is_some);
     let found = shrunk.flatten().or_else(|| first.as_ref().map(|(found, _)| found.clone()));
     let first = first.map(|(found, kind)| {
         let (requests, seed) = (asked, options.seed);
@@ -173,8 +177,12 @@ impl First {
     /// What became of it, played again alone.
     fn about(&self, requests: usize) -> String {
         let before = self.found.session.steps.len();
-        if self.again {
-            return format!("The same, shrunk from {before} requests to {requests}:\n");
+        match self.again {
+            Some(true) => {
+                return format!("The same, shrunk from {before} requests to {requests}:\n")
+            }
+            Some(false) => {}
+            None => return "As it was found:\n".to_string(),
         }
         let (run, seed) = (grouped(self.requests), self.seed);
         format!(

@@ -48,7 +48,8 @@ fn another_byte_of_a_table_is_found() {
 #[test]
 fn an_answer_that_cannot_be_read_is_a_difference() {
     let outcome = spoilt("s/^answer 9 .*/nonsense/");
-    assert!(trouble(&outcome).contains("'nonsense': expected answer, nine words"), "{outcome}");
+    let told = trouble(&outcome);
+    assert!(told.contains("'nonsense' to 'serve ") && told.contains("nine words"), "{outcome}");
     assert!(outcome.found.expect("a difference").session.steps.len() < 4);
 }
 
@@ -89,7 +90,7 @@ fn silence_is_a_difference() {
     assert!(told.contains("kept silent for 0.3 s when asked 'serve 9 "), "{told}");
     let first = outcome.first.as_ref().expect("a difference");
     assert_eq!(first.found.session.steps.last().expect("a request").request.operation, 9);
-    assert!(first.again && outcome.to_string().contains("\n#   drop "), "{outcome}");
+    assert!(first.again == Some(true) && outcome.to_string().contains("\n#   drop "), "{outcome}");
 }
 
 #[test]
@@ -109,5 +110,5 @@ fn a_command_that_is_not_there() {
 #[test]
 fn a_command_that_does_not_speak_the_protocol() {
     let error = against("echo hello", 10).unwrap_err();
-    assert!(error.contains("'hello': expected northbridge 1"), "{error}");
+    assert!(error.contains("'hello' to 'northbridge 1': expected northbridge 1"), "{error}");
 }

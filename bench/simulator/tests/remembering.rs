@@ -42,7 +42,7 @@ fn one_that_dies_at_its_fiftieth_line() {
         let text = outcome.to_string();
         assert!(text.contains("First at request "), "{text}");
         assert!(text.contains("ended without an answer to '"), "{text}");
-        assert_eq!(comes_again(&outcome, &command), first.again, "{text}");
+        assert_eq!(Some(comes_again(&outcome, &command)), first.again, "{text}");
     }
 }
 
@@ -55,7 +55,7 @@ fn one_that_is_wrong_after_earlier_worlds() {
     let command = format!("sed -u -e '{worlds}' -e '{locks}' | '{SIMULATOR}'");
     let outcome = against(&command, 1);
     let first = outcome.first.as_ref().expect("a difference");
-    assert!(!first.again);
+    assert_eq!(first.again, Some(false));
     let text = outcome.to_string();
     assert!(text.contains("THIS DOES NOT COME AGAIN"), "{text}");
     assert!(
@@ -76,7 +76,7 @@ fn one_that_starts_once_only() {
     let outcome = against(&command, 1);
     let _ = fs::remove_dir(&mark);
     let first = outcome.first.as_ref().expect("a difference");
-    assert!(!first.again && outcome.to_string().contains("THIS DOES NOT COME AGAIN"));
+    assert!(first.again == Some(false) && outcome.to_string().contains("THIS DOES NOT COME AGAIN"));
     assert_eq!(outcome.found.as_ref(), Some(&first.found));
 }
 

@@ -70,6 +70,7 @@ fn options(arguments: &mut Arguments) -> Result<Options, Failure> {
         guard: guard.transpose().map_err(|why| Failure::Input(format!("compare: {why}")))?,
         kind: arguments.value("--kind")?,
         coverage: arguments.flag("--coverage"),
+        shrink: usual.shrink,
     })
 }
 
