@@ -15,11 +15,13 @@ pub enum Read {
     End,
 }
 
-/// Moves what is at hand into a line, up to its end; how many bytes were taken.
+/// Moves what is at hand into a line, up to its end; how many bytes were taken. Of a line that is too
+/// long the front is left in it.
 pub fn extend(line: &mut Vec<u8>, at_hand: &[u8]) -> (usize, Read) {
     let end = at_hand.iter().position(|byte| *byte == b'\n');
     let length = end.unwrap_or(at_hand.len());
     if line.len() + length > LINE {
+        line.extend_from_slice(&at_hand[..LINE - line.len()]);
         return (0, Read::TooLong);
     }
     line.extend_from_slice(&at_hand[..length]);
@@ -74,6 +76,6 @@ mod tests {
     fn an_endless_line_is_left_at_the_longest() {
         let (mut line, mut input) = (Vec::new(), io::BufReader::new(io::repeat(b'x')));
         assert_eq!(read(&mut input, &mut line).unwrap(), Read::TooLong);
-        assert!(line.len() <= LINE);
+        assert_eq!(line, vec![b'x'; LINE]);
     }
 }
