@@ -143,6 +143,18 @@ fn a_handed_over_world_is_simplified() {
     }
 }
 
+/// A line as deep as a table is handed over: what is left of it is short.
+#[test]
+fn a_deep_line_is_shortened() {
+    let kind = Some("deep".to_string());
+    let pair = Pair::new(Box::new(Proved::new()), Box::new(Stranger(Proved::new())));
+    let options = Options { kind, ..Options::default() };
+    let Session { world, .. } = compare(&options, pair).unwrap().found.unwrap().session;
+    let entries = 0..world.table.len() / entry::SIZE;
+    let used = entries.filter(|number| !Entry::of(&world.table, *number).is_free()).count();
+    assert!(used <= 3, "{used} entries");
+}
+
 #[test]
 fn the_same_session_each_time() {
     let texts = [found(3, 7), found(3, 7)].map(|outcome| outcome.found.unwrap().to_string());

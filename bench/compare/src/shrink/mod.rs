@@ -38,6 +38,7 @@ impl Shrinker<'_> {
         self.smaller_table();
         self.smaller_memory();
         self.zero_state();
+        self.shorter_lines();
         self.zero_table();
         self.zero_memory();
         self.leave_out_requests();

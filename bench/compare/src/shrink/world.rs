@@ -2,12 +2,15 @@
 
 use bridge::{Operation, State, Words};
 use session::entry::{self, Bits, Entry, Type, SIZE};
-use session::token::{self, Token};
+use session::token::{self, Token, PARENT_ENCODING};
 use session::World;
 
 use super::shrinker::Shrinker;
 use super::simpler::{lower, smaller};
 use crate::draft::{Draft, Part, Source};
+
+/// Of more entries in use the fields are left as they are.
+const MANY: usize = 24;
 
 impl Shrinker<'_> {
     /// A reset at the head, over zeros, in place of what was handed over.
@@ -99,9 +102,59 @@ impl Shrinker<'_> {
         }
     }
 
-    /// Each field of each entry that is handed over, nearer to zero, and tags that can be read.
+    /// Links left out of the lines that requests name: an entry's parent is one from further above.
+    pub fn shorter_lines(&mut self) {
+        let tokens =
+            self.draft.parts.iter().flat_map(|part| [part.request.token, part.request.second]);
+        let mut named: Vec<usize> =
+            tokens.map(|word| Token::unpack(word).number as usize).collect();
+        named.sort_unstable();
+        named.dedup();
+        for number in named {
+            while self.leave_out_links_above(number) {}
+        }
+    }
+
+    /// Many links first.
+    fn leave_out_links_above(&mut self, number: usize) -> bool {
+        let above = self.above(number);
+        let mut links = above.len().next_power_of_two();
+        while links > 1 {
+            if let Some(parent) = above.get(links - 1) {
+                let mut draft = self.draft.clone();
+                let link = self.entry(*parent).token(*parent, PARENT_ENCODING);
+                let entry = self.entry(number).with(entry::PARENT, link);
+                entry.store(&mut draft.world.table, number);
+                if self.take(draft) {
+                    return true;
+                }
+            }
+            links /= 2;
+        }
+        false
+    }
+
+    /// The numbers above an entry, the nearest first, as far as there are children.
+    fn above(&self, number: usize) -> Vec<usize> {
+        let parent = |number: &usize| {
+            let entry = self.entry(*number);
+            let parent = Token::unpack(entry.get(entry::PARENT)).number as usize;
+            Some(parent).filter(|_| entry.kind() == entry::INDIRECT)
+        };
+        let entries = self.draft.world.table.len() / SIZE;
+        std::iter::successors(Some(number), parent).skip(1).take(entries).collect()
+    }
+
+    /// Each field of each entry that is handed over, nearer to zero, and tags that can be read, if
+    /// the entries are not too many.
     pub fn simpler_entries(&mut self) {
-        for number in 0..self.draft.world.table.len() / SIZE {
+        let entries = self.draft.world.table.len() / SIZE;
+        let used = (0..entries).filter(|number| !self.entry(*number).is_free());
+        let used: Vec<usize> = used.take(MANY + 1).collect();
+        if used.len() > MANY {
+            return;
+        }
+        for number in used {
             let fields = Type::of(self.entry(number).kind()).map_or(&[][..], |own| own.fields);
             for (_, bits) in fields.iter().filter(|(_, bits)| *bits != entry::TAG) {
                 self.lower_field(number, *bits);
