@@ -1,59 +1,63 @@
 //! A machine in a process of its own: any program that speaks the line protocol.
 
-use std::io::{self, BufRead, BufReader, Write};
-use std::os::fd::AsRawFd;
-use std::os::unix::process::CommandExt;
-use std::process::{Child, ChildStdin, ChildStdout, Command, ExitStatus, Stdio};
-use std::thread::sleep;
+use std::collections::VecDeque;
+use std::io;
 use std::time::Duration;
 
 use bridge::{Reply, State, Words};
+use session::server::{Server, Trouble};
 use session::World;
 
-use crate::machine::{Machine, Trouble};
-use crate::protocol::{self, GREETING, PIECE};
+use crate::line::Read;
+use crate::machine::Machine;
+use crate::process::Process;
+use crate::protocol::{self, GREETING, LINE, PIECE};
+use crate::text::shortened;
 
-/// How long a program may keep silent, in milliseconds: before its greeting, and then.
-const START: i32 = 60_000;
-const SILENCE: i32 = 10_000;
+/// How long a program may take for an answer, if nothing else is said.
+pub const WAIT: Duration = Duration::from_secs(10);
 
 /// How many pieces are asked for before their answers are read: few enough that neither side can
 /// wait for the other with full pipes.
 const AT_ONCE: usize = 32;
 
-/// A program that is running.
-struct Process {
-    child: Child,
-    input: ChildStdin,
-    output: BufReader<ChildStdout>,
-    /// How long it may keep silent, in milliseconds.
-    patience: i32,
-}
-
 /// The program, with what it showed of its world last.
 pub struct Simulator {
     command: String,
+    /// How long it may take for an answer.
+    wait: Duration,
     process: Option<Process>,
+    /// The lines that it has not answered yet, by their fronts.
+    asked: VecDeque<String>,
+    /// The line whose answer is read.
+    answered: String,
+    /// How many sessions this process was asked.
+    sessions: usize,
     shown: World,
     line: Vec<u8>,
 }
 
 impl Simulator {
     /// Starts the command by the shell; an error says why it cannot be compared with.
-    pub fn start(command: &str) -> Result<Simulator, String> {
-        let command = command.to_string();
+    pub fn start(command: &str, wait: Duration) -> Result<Simulator, String> {
+        let (command, process, asked) = (command.to_string(), None, VecDeque::new());
+        let (answered, shown, line) = (String::new(), World::zeros(0, 0), Vec::new());
         let mut simulator =
-            Simulator { command, process: None, shown: World::zeros(0, 0), line: Vec::new() };
+            Simulator { command, wait, process, asked, answered, sessions: 0, shown, line };
         simulator.greet().map_err(|trouble| trouble.message().to_string())?;
         Ok(simulator)
     }
 
     fn greet(&mut self) -> Result<(), Trouble> {
-        self.process = Some(Process::start(&self.command)?);
+        let command = &self.command;
+        let process = Process::start(command).map_err(|error| {
+            Trouble::Broken(format!("the command '{command}' cannot be run: {error}"))
+        })?;
+        self.process = Some(process);
+        self.asked.clear();
+        self.sessions = 0;
         self.send(GREETING.as_bytes())?;
-        self.expect(GREETING)?;
-        self.process()?.patience = SILENCE;
-        Ok(())
+        self.expect(GREETING)
     }
 
     fn process(&mut self) -> Result<&mut Process, Trouble> {
@@ -65,9 +69,9 @@ impl Simulator {
 
     /// Sends lines, without the last one's end.
     fn send(&mut self, lines: &[u8]) -> Result<(), Trouble> {
-        let process = self.process()?;
-        let sent = process.input.write_all(lines).and_then(|()| process.input.write_all(b"\n"));
-        match sent.and_then(|()| process.input.flush()) {
+        let fronts = lines.split(|byte| *byte == b'\n').map(front);
+        self.asked.extend(fronts);
+        match self.process()?.send(lines) {
             // It no longer reads: what it said last, or how it ended, is told when its answer is read.
             Err(error) if error.kind() == io::ErrorKind::BrokenPipe => Ok(()),
             Err(error) => {
@@ -77,20 +81,24 @@ impl Simulator {
         }
     }
 
-    /// Reads a line into the one at hand.
+    /// Reads the answer to the first line that has none yet.
     fn receive(&mut self) -> Result<String, Trouble> {
-        let mut line = std::mem::take(&mut self.line);
+        let (mut line, wait) = (std::mem::take(&mut self.line), self.wait);
         line.clear();
-        let read = self.process()?.read(&mut line);
+        self.answered = self.asked.pop_front().unwrap_or_default();
+        let read = self.process()?.read(&mut line, wait);
         let text = String::from_utf8_lossy(&line).trim_end().to_string();
         self.line = line;
         match read {
             Err(error) if error.kind() == io::ErrorKind::TimedOut => {
-                Err(Trouble::Silent("the command keeps silent".to_string()))
+                Err(silent(&self.answered, wait))
             }
             Err(error) => Err(Trouble::Broken(format!("the command cannot be read: {error}"))),
-            Ok(false) => Err(self.ended()),
-            Ok(true) => Ok(text),
+            Ok(Read::Whole) => Ok(text),
+            Ok(Read::TooLong) => {
+                Err(self.malformed(&text, &format!("expected a line of at most {LINE} characters")))
+            }
+            Ok(Read::Part | Read::End) => Err(self.ended()),
         }
     }
 
@@ -98,7 +106,16 @@ impl Simulator {
     fn ended(&mut self) -> Trouble {
         let status = self.process.take().and_then(Process::end);
         let how = status.map_or(String::new(), |status| format!(" ({status})"));
-        Trouble::Broken(format!("the command '{}' ended without an answer{how}", self.command))
+        let (command, asked) = (&self.command, &self.answered);
+        Trouble::Broken(format!(
+            "the command '{command}' ended without an answer to '{asked}'{how}"
+        ))
+    }
+
+    /// What was answered last is not what was expected.
+    fn malformed(&self, line: &str, expected: &str) -> Trouble {
+        let (line, asked) = (shortened(line), &self.answered);
+        Trouble::Broken(format!("the command answered '{line}' to '{asked}': {expected}"))
     }
 
     fn expect(&mut self, wanted: &str) -> Result<(), Trouble> {
@@ -106,7 +123,7 @@ impl Simulator {
         if line == wanted {
             return Ok(());
         }
-        Err(malformed(&line, &format!("expected {wanted}")))
+        Err(self.malformed(&line, &format!("expected {wanted}")))
     }
 
     /// Puts bytes into the program's table or memory, as far as they are not zero.
@@ -126,7 +143,7 @@ impl Simulator {
     /// Reads what was asked for into a place.
     fn take(&mut self, place: &mut [u8]) -> Result<(), Trouble> {
         let line = self.receive()?;
-        protocol::parse_bytes(&line, place).map_err(|expected| malformed(&line, &expected))
+        protocol::parse_bytes(&line, place).map_err(|expected| self.malformed(&line, &expected))
     }
 
     /// Asks for every byte of table and memory. The first of these lines go out with the request
@@ -139,7 +156,7 @@ impl Simulator {
         self.send_all(request, &lines[..first])?;
         let answer = self.receive()?;
         if !answer.starts_with("answer ") {
-            return Err(malformed(&answer, protocol::ANSWER));
+            return Err(self.malformed(&answer, protocol::ANSWER));
         }
         let mut shown = std::mem::replace(&mut self.shown, World::zeros(0, 0));
         let World { table, memory, .. } = &mut shown;
@@ -181,100 +198,16 @@ fn pieces(command: &str, length: usize) -> impl Iterator<Item = String> + '_ {
         .map(move |at| format!("{command} {at:x} {:x}", PIECE.min(length - at)))
 }
 
-fn malformed(line: &str, expected: &str) -> Trouble {
-    let start: String = line.chars().take(60).collect();
-    Trouble::Broken(format!("the command answered '{start}': {expected}"))
+/// The front of a line that was sent.
+fn front(line: &[u8]) -> String {
+    shortened(&String::from_utf8_lossy(&line[..line.len().min(200)]))
 }
 
-impl Process {
-    fn start(command: &str) -> Result<Process, Trouble> {
-        let mut shell = Command::new("sh");
-        shell.args(["-c", command]).stdin(Stdio::piped()).stdout(Stdio::piped());
-        // A group of its own, so that the shell's children end with it.
-        shell.process_group(0);
-        let cannot =
-            |why: String| Trouble::Broken(format!("the command '{command}' cannot be run: {why}"));
-        let mut child = shell.spawn().map_err(|error| cannot(error.to_string()))?;
-        let (input, output) = (child.stdin.take(), child.stdout.take());
-        let input = input.ok_or_else(|| cannot("no input".to_string()))?;
-        let output = output.ok_or_else(|| cannot("no output".to_string()))?;
-        let output = BufReader::with_capacity(1 << 16, output);
-        Ok(Process { child, input, output, patience: START })
-    }
-
-    /// Reads a line; false at the end of the output.
-    fn read(&mut self, line: &mut Vec<u8>) -> io::Result<bool> {
-        loop {
-            if self.output.buffer().is_empty() {
-                self.wait()?;
-            }
-            let bytes = self.output.fill_buf()?;
-            let end = bytes.iter().position(|byte| *byte == b'\n');
-            let taken = end.map_or(bytes.len(), |end| end + 1);
-            line.extend_from_slice(&bytes[..taken]);
-            self.output.consume(taken);
-            if taken == 0 || end.is_some() {
-                return Ok(end.is_some());
-            }
-        }
-    }
-
-    /// Waits until there is something to read, but not for ever.
-    fn wait(&self) -> io::Result<()> {
-        let mut waited = Poll { fd: self.output.get_ref().as_raw_fd(), events: 1, revents: 0 };
-        // One record of the layout that poll asks for is lent, for the time of the call.
-        match unsafe { poll(&mut waited, 1, self.patience) } {
-            0 => Err(io::ErrorKind::TimedOut.into()),
-            -1 => Err(io::Error::last_os_error()),
-            _ => Ok(()),
-        }
-    }
-
-    /// Closes the program's input, and says how it ended; it is ended if it does not end itself.
-    fn end(mut self) -> Option<ExitStatus> {
-        drop(self.input);
-        drop(self.output);
-        for _ in 0..200 {
-            if let Ok(Some(status)) = self.child.try_wait() {
-                return Some(status);
-            }
-            sleep(Duration::from_millis(10));
-        }
-        self.child.end_group();
-        None
-    }
-}
-
-/// Ends a program with all that it started.
-trait EndGroup {
-    fn end_group(&mut self);
-}
-
-impl EndGroup for Child {
-    fn end_group(&mut self) {
-        if let Ok(group) = i32::try_from(self.id()) {
-            // The child leads a group of its own and has not been waited for, so that its number
-            // is still its own.
-            unsafe { kill(-group, KILL) };
-        }
-        let _ = self.wait();
-    }
-}
-
-/// The signal that ends a process at once.
-const KILL: i32 = 9;
-
-/// The record of poll(2).
-#[repr(C)]
-struct Poll {
-    fd: i32,
-    events: i16,
-    revents: i16,
-}
-
-extern "C" {
-    fn poll(records: *mut Poll, count: std::ffi::c_ulong, milliseconds: i32) -> i32;
-    fn kill(process: i32, signal: i32) -> i32;
+fn silent(asked: &str, wait: Duration) -> Trouble {
+    let seconds = wait.as_secs_f64();
+    Trouble::Silent(format!(
+        "the command kept silent for {seconds} s when asked '{asked}'; --wait SECONDS waits longer"
+    ))
 }
 
 impl Machine for Simulator {
@@ -285,8 +218,10 @@ impl Machine for Simulator {
     /// A program that has ended, or lost its step, is started anew.
     fn begin(&mut self, world: &World) -> Result<(), Trouble> {
         if self.process.is_none() {
-            self.greet()?;
+            let greeted = self.greet();
+            self.stop_at_trouble(greeted)?;
         }
+        self.sessions += 1;
         self.shown.replace(world);
         let lengths = [world.table.len() as u64, world.memory.len() as u64];
         let mut line = b"world".to_vec();
@@ -308,6 +243,15 @@ impl Machine for Simulator {
         self.stop_at_trouble(reply)
     }
 
+    fn remembers(&self) -> bool {
+        self.sessions > 1
+    }
+
+    /// The next session is the first that a process is asked.
+    fn renew(&mut self) {
+        self.process.take().and_then(Process::end);
+    }
+
     fn state(&self) -> State {
         self.shown.state
     }
@@ -324,10 +268,10 @@ impl Machine for Simulator {
 impl Simulator {
     fn read_answer(&mut self, line: &str, buffer: &mut [u8]) -> Result<Reply, Trouble> {
         let read = protocol::parse_answer(line);
-        let (reply, state, bytes) = read.map_err(|expected| malformed(line, &expected))?;
+        let (reply, state, bytes) = read.map_err(|expected| self.malformed(line, &expected))?;
         if bytes.len() != buffer.len() {
             let expected = format!("expected a buffer of {} bytes", buffer.len());
-            return Err(malformed(line, &expected));
+            return Err(self.malformed(line, &expected));
         }
         buffer.copy_from_slice(&bytes);
         self.shown.state = state;
@@ -338,11 +282,33 @@ impl Simulator {
     /// starts it anew.
     fn stop_at_trouble<T>(&mut self, result: Result<T, Trouble>) -> Result<T, Trouble> {
         if result.is_err() {
-            if let Some(mut process) = self.process.take() {
-                process.child.end_group();
+            if let Some(process) = self.process.take() {
+                process.stop();
             }
         }
         result
+    }
+}
+
+/// In a replay it works on a world of its own, which is shown after each request.
+impl Server for Simulator {
+    fn begin(&mut self, world: &World) -> Result<(), Trouble> {
+        Machine::begin(self, world)
+    }
+
+    fn longest(&self) -> usize {
+        PIECE
+    }
+
+    fn serve(
+        &mut self,
+        request: &Words,
+        world: &mut World,
+        buffer: &mut [u8],
+    ) -> Result<Reply, Trouble> {
+        let reply = Machine::serve(self, request, buffer)?;
+        world.replace(&self.shown);
+        Ok(reply)
     }
 }
 

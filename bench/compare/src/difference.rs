@@ -4,8 +4,7 @@ use std::fmt;
 
 use bridge::{Reply, State};
 use session::entry::SIZE;
-
-use crate::machine::Trouble;
+use session::server::Trouble;
 
 /// The first difference that a request showed. Of a pair the proved code's stands first.
 #[derive(Clone, Debug, PartialEq, Eq)]

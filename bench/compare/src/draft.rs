@@ -80,7 +80,39 @@ impl Draft {
     }
 }
 
+impl Draft {
+    /// The draft without a request; those that used a token of its use the token that it used.
+    #[must_use]
+    pub fn without(&self, at: usize) -> Draft {
+        let mut draft = self.clone();
+        let gone = draft.parts.remove(at);
+        for part in &mut draft.parts {
+            gone.stand_in(&mut part.token, &mut part.request.token);
+            gone.stand_in(&mut part.second, &mut part.request.second);
+        }
+        draft
+    }
+}
+
 impl Part {
+    /// Puts its own token where one that it gave is used.
+    fn stand_in(&self, source: &mut Source, word: &mut u64) {
+        let Source::Given { part, encoding, offset, .. } = *source else {
+            return;
+        };
+        if part != self.name {
+            return;
+        }
+        *source = match self.token {
+            Source::Word => Source::Word,
+            Source::Given { part, second, flip, .. } => {
+                Source::Given { part, second, encoding, offset, flip }
+            }
+        };
+        let Token { tag, number, .. } = Token::unpack(self.request.token);
+        *word = token::packed(encoding, tag, number, offset);
+    }
+
     fn resolve(&self, replies: &Replies) -> Words {
         let token = self.token.resolve(self.request.token, replies);
         let second = self.second.resolve(self.request.second, replies);

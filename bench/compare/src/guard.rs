@@ -7,9 +7,10 @@ use std::ptr::null_mut;
 use std::str::FromStr;
 
 use bridge::{words_of, Reply, State, Words};
+use session::server::Trouble;
 use session::World;
 
-use crate::machine::{Machine, Trouble};
+use crate::machine::Machine;
 
 /// At which end of each slice the unmapped page is.
 #[derive(Clone, Copy, Debug, PartialEq, Eq)]

@@ -1,25 +1,8 @@
 //! Machines that can be compared.
 
 use bridge::{Reply, State, Words};
-use session::server::{self, Server};
+use session::server::{self, Server, Trouble};
 use session::World;
-
-/// Why a machine gave no answer.
-#[derive(Clone, Debug, PartialEq, Eq)]
-pub enum Trouble {
-    /// It ended, or its answer cannot be read.
-    Broken(String),
-    /// It kept silent for too long.
-    Silent(String),
-}
-
-impl Trouble {
-    pub fn message(&self) -> &str {
-        match self {
-            Trouble::Broken(message) | Trouble::Silent(message) => message,
-        }
-    }
-}
 
 /// A machine under comparison. It keeps state, table and memory between the requests.
 pub trait Machine {
@@ -30,6 +13,14 @@ pub trait Machine {
 
     /// Serves one request; the buffer is lent for the call and keeps its length.
     fn serve(&mut self, request: &Words, buffer: &mut [u8]) -> Result<Reply, Trouble>;
+
+    /// Whether it may remember sessions before the one at hand.
+    fn remembers(&self) -> bool {
+        false
+    }
+
+    /// Makes it forget all sessions; nothing to do for one that remembers none.
+    fn renew(&mut self) {}
 
     fn state(&self) -> State;
 
@@ -86,7 +77,7 @@ impl<S: Server> Machine for Local<S> {
     }
 
     fn serve(&mut self, request: &Words, buffer: &mut [u8]) -> Result<Reply, Trouble> {
-        Ok(self.server.serve(request, &mut self.world, buffer))
+        self.server.serve(request, &mut self.world, buffer)
     }
 
     fn state(&self) -> State {

@@ -12,6 +12,7 @@ use crate::coverage::Coverage;
 use crate::dice::Dice;
 use crate::difference::Difference;
 use crate::pair::Pair;
+use crate::progress::Progress;
 
 /// A session, cut off after the request that shows the difference.
 #[derive(Clone, Debug, PartialEq, Eq)]
@@ -28,8 +29,10 @@ pub struct Player<'a> {
     pub given: Vec<u64>,
     pair: &'a mut Pair,
     coverage: &'a mut Coverage,
+    progress: &'a mut Progress,
     log: Session,
-    left: u64,
+    asked: u64,
+    most: u64,
     found: Option<Found>,
 }
 
@@ -38,21 +41,27 @@ const STOPPED: Reply =
     Reply { refusal: Check::Request as u64, place: 0, first: 0, second: 0, dropped: 0 };
 
 impl<'a> Player<'a> {
-    /// A player that asks at most `left` requests.
-    pub fn new(dice: Dice, pair: &'a mut Pair, coverage: &'a mut Coverage, left: u64) -> Self {
+    /// A player that goes on from so many requests asked, to so many at most.
+    pub fn new(
+        dice: Dice,
+        pair: &'a mut Pair,
+        coverage: &'a mut Coverage,
+        progress: &'a mut Progress,
+        [asked, most]: [u64; 2],
+    ) -> Self {
         let log = Session { world: World::zeros(0, 0), steps: Vec::new() };
-        let given = Vec::new();
-        Player { dice, rubbish: false, given, pair, coverage, log, left, found: None }
+        let (rubbish, given, found) = (false, Vec::new(), None);
+        Player { dice, rubbish, given, pair, coverage, progress, log, asked, most, found }
     }
 
-    /// How many requests are left, and the difference, if there was one.
+    /// How many requests were asked, and the difference, if there was one.
     pub fn end(self) -> (u64, Option<Found>) {
-        (self.left, self.found)
+        (self.asked, self.found)
     }
 
     /// True when nothing more is asked.
     pub fn over(&self) -> bool {
-        self.left == 0 || self.found.is_some()
+        self.asked >= self.most || self.found.is_some()
     }
 
     /// Begins a session over a world.
@@ -81,7 +90,8 @@ impl<'a> Player<'a> {
         if self.rubbish {
             request = self.with_rubbish(request);
         }
-        self.left -= 1;
+        self.asked += 1;
+        self.progress.asked(self.asked);
         let (before, root) = (self.state(), !self.entry(0).is_free());
         self.log.steps.push(Step { request, buffer });
         let buffer = self.log.steps.last().map_or(&[][..], |step| &step.buffer);

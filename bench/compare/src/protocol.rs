@@ -15,9 +15,9 @@
 //!
 //! Numbers are hexadecimal without a prefix, bytes two digits each, and `-` stands for no bytes.
 //! `world` gives a table and a memory of so many zero bytes, and a state; `table` and `memory` put
-//! bytes into them; `serve` gives a request's eight words and its buffer. No line that the bench
-//! sends has more than 8,192 bytes in it, and it asks for no more in one line. A simulator flushes
-//! its output after each answer and ends at the end of its input.
+//! bytes into them; `serve` gives a request's eight words and its buffer. No line, asked or answered,
+//! holds more than 8,192 bytes, two digits each, or has more than 16,640 characters. A simulator
+//! flushes its output after each answer and ends at the end of its input.
 
 use bridge::{Reply, State, Words};
 
@@ -26,6 +26,9 @@ pub const GREETING: &str = "northbridge 1";
 
 /// How many bytes one line holds at most.
 pub const PIECE: usize = 8_192;
+
+/// How many characters one line has at most: two for each byte, and room for the words before them.
+pub const LINE: usize = 2 * PIECE + 256;
 
 /// A line, read.
 #[derive(Clone, Debug, PartialEq, Eq)]
@@ -95,7 +98,11 @@ fn put(part: Name, at: &str, text: &str) -> Result<Line, String> {
 }
 
 fn show(part: Name, at: &str, wanted: &str) -> Result<Line, String> {
-    Ok(Line::Show { part, at: length(number(at)?)?, length: length(number(wanted)?)? })
+    let wanted = length(number(wanted)?)?;
+    if wanted > PIECE {
+        return Err(format!("expected to be asked for at most {PIECE:x} bytes, not {wanted:x}"));
+    }
+    Ok(Line::Show { part, at: length(number(at)?)?, length: wanted })
 }
 
 /// What is expected of an answer.
@@ -143,6 +150,9 @@ fn numbers<const N: usize>(words: &[&str]) -> Result<[u64; N], String> {
 fn bytes(text: &str) -> Result<Vec<u8>, String> {
     if text == "-" {
         return Ok(Vec::new());
+    }
+    if text.len() > 2 * PIECE {
+        return Err(format!("expected at most {PIECE} bytes, not {}", text.len() / 2));
     }
     if !text.len().is_multiple_of(2) {
         return Err("expected an even number of hexadecimal digits, or -".to_string());
@@ -230,6 +240,28 @@ mod tests {
         assert!(wrong("table 0 abc").contains("even"));
         assert!(wrong("table 0 zz").contains("'zz'"));
         assert!(wrong("world ffffffffffffffff 0 0 0 0 0").contains("length"));
+    }
+
+    /// A line holds so many bytes and no more, and no line asks for more.
+    #[test]
+    fn bytes_of_one_line() {
+        let table = |bytes: usize| parse(&format!("table 0 {}", "00".repeat(bytes)));
+        assert!(table(PIECE).is_ok());
+        assert_eq!(table(PIECE + 1), Err("expected at most 8192 bytes, not 8193".to_string()));
+        assert!(parse("show-memory 0 2000").is_ok());
+        assert!(parse("show-memory 0 2001").unwrap_err().contains("at most 2000 bytes"));
+    }
+
+    /// The longest lines there are: a request with the widest words, and its answer.
+    #[test]
+    fn the_longest_lines_have_room() {
+        let words = Reply::WORDS + State::WORDS;
+        for (name, words) in [("serve", Words::COUNT), ("answer", words)] {
+            let mut line = name.as_bytes().to_vec();
+            write_numbers(&mut line, &vec![u64::MAX; words]);
+            write_bytes(&mut line, &[0; PIECE]);
+            assert!(line.len() <= LINE, "{name}: {}", line.len());
+        }
     }
 
     #[test]

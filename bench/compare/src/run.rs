@@ -1,10 +1,9 @@
 //! A run: sessions one after the other until the wanted number of requests.
 
 use std::fmt;
-use std::io::{stderr, IsTerminal, Write};
 use std::time::{Duration, Instant};
 
-use crate::command::Simulator;
+use crate::command::{Simulator, WAIT};
 use crate::coverage::Coverage;
 use crate::dice::Dice;
 use crate::fault;
@@ -13,7 +12,9 @@ use crate::kinds::{self, Kind};
 use crate::machine::{Machine, Model, Proved};
 use crate::pair::Pair;
 use crate::player::{Found, Player};
+use crate::progress::Progress;
 use crate::shrink::shrink;
+use crate::text::{self, grouped, throughput};
 
 /// What is compared, and how far.
 #[derive(Clone, Debug, PartialEq, Eq)]
@@ -22,18 +23,23 @@ pub struct Options {
     pub seed: u64,
     /// A command that speaks the line protocol; without one it is the model.
     pub against: Option<String>,
+    /// How long the command may take for an answer.
+    pub wait: Duration,
     /// Puts each slice that is lent to the proved code against an unmapped page.
     pub guard: Option<Guard>,
     /// Only sessions of the kind of this name.
     pub kind: Option<String>,
     /// Prints how often each operation, refusal and place was reached.
     pub coverage: bool,
+    /// Shrinks what it finds, after it has come again.
+    pub shrink: bool,
 }
 
 impl Default for Options {
     fn default() -> Self {
         let (against, guard, kind) = (None, None, None);
-        Options { requests: 1_000_000, seed: 1, against, guard, kind, coverage: false }
+        let (requests, seed, wait) = (1_000_000, 1, WAIT);
+        Options { requests, seed, against, wait, guard, kind, coverage: false, shrink: true }
     }
 }
 
@@ -44,10 +50,27 @@ pub struct Outcome {
     pub sessions: u64,
     pub time: Duration,
     pub coverage: Coverage,
-    /// The shrunk session, if there was a difference.
+    /// The difference as it was found, if there was one.
+    pub first: Option<First>,
+    /// The shrunk session.
     pub found: Option<Found>,
     other: String,
     show_coverage: bool,
+}
+
+/// A difference as it was found.
+#[derive(Clone, Debug)]
+pub struct First {
+    pub found: Found,
+    /// Which session of the run it was, from 1 on, and of which kind.
+    pub session: u64,
+    pub kind: &'static str,
+    /// The run that comes to it again.
+    pub requests: u64,
+    pub seed: u64,
+    /// Whether the session alone shows it again, in a fresh process if there is one; none if it was
+    /// not tried.
+    pub again: Option<bool>,
 }
 
 impl Outcome {
@@ -67,7 +90,7 @@ pub fn run(options: &Options) -> Result<Outcome, String> {
         None => Box::new(Proved::new()),
     };
     let other: Box<dyn Machine> = match &options.against {
-        Some(command) => Box::new(Simulator::start(command)?),
+        Some(command) => Box::new(Simulator::start(command, options.wait)?),
         None => Box::new(Model::new()),
     };
     compare(options, Pair::new(reference, other))
@@ -79,24 +102,36 @@ pub fn compare(options: &Options, mut pair: Pair) -> Result<Outcome, String> {
     let start = Instant::now();
     let mut progress = Progress::new(options.requests);
     let mut coverage = Coverage::default();
-    let (mut left, mut sessions, mut found) = (options.requests, 0, None);
-    while left > 0 && found.is_none() {
-        fault::session(sessions);
-        let mut dice = Dice::new(options.seed, sessions);
-        let kind = only.unwrap_or_else(|| kinds::choose(sessions, &mut dice));
-        let mut player = Player::new(dice, &mut pair, &mut coverage, left);
+    let (mut asked, mut first) = (0, None);
+    while asked < options.requests && first.is_none() {
+        let session = progress.sessions;
+        fault::session(session);
+        progress.sessions += 1;
+        let mut dice = Dice::new(options.seed, session);
+        let kind = only.unwrap_or_else(|| kinds::choose(session, &mut dice));
+        let bounds = [asked, options.requests];
+        let mut player = Player::new(dice, &mut pair, &mut coverage, &mut progress, bounds);
         (kind.play)(&mut player);
-        (left, found) = player.end();
-        sessions += 1;
-        progress.show(options.requests - left, sessions);
+        let found;
+        (asked, found) = player.end();
+        first = found.map(|found| (found, kind.name));
     }
+    let (time, sessions) = (start.elapsed(), progress.sessions);
+    let wanted = first.as_ref().filter(|_| options.shrink);
+    let shrunk = wanted.map(|(found, _)| shrink(&mut pair, found, &mut progress));
     progress.end();
-    let found = found.map(|found| shrink(&mut pair, found));
+    let again = shrunk.as_ref().map(Option::is_some);
+    let found = shrunk.flatten().or_else(|| first.as_ref().map(|(found, _)| found.clone()));
+    let first = first.map(|(found, kind)| {
+        let (requests, seed) = (asked, options.seed);
+        First { found, session: sessions, kind, requests, seed, again }
+    });
     Ok(Outcome {
-        requests: options.requests - left,
+        requests: asked,
         sessions,
-        time: start.elapsed(),
+        time,
         coverage,
+        first,
         found,
         other: pair.other.name().to_string(),
         show_coverage: options.coverage,
@@ -114,60 +149,6 @@ fn only(options: &Options) -> Result<Option<&'static Kind>, String> {
         .ok_or_else(|| format!("no kind of session '{name}'; expected one of {}", names()))
 }
 
-/// Progress on the standard error, if that is a terminal.
-struct Progress {
-    wanted: u64,
-    start: Instant,
-    shown: Option<Instant>,
-    terminal: bool,
-}
-
-impl Progress {
-    fn new(wanted: u64) -> Progress {
-        Progress { wanted, start: Instant::now(), shown: None, terminal: stderr().is_terminal() }
-    }
-
-    fn show(&mut self, requests: u64, sessions: u64) {
-        let last = self.shown.unwrap_or(self.start);
-        if !self.terminal || last.elapsed() < Duration::from_millis(200) {
-            return;
-        }
-        let line = throughput(requests, sessions, self.start.elapsed());
-        let wanted = grouped(self.wanted);
-        let _ = write!(stderr(), "\r\x1b[K{line}, of {wanted} requests");
-        self.shown = Some(Instant::now());
-    }
-
-    /// Takes the line away.
-    fn end(&self) {
-        if self.shown.is_some() {
-            let _ = write!(stderr(), "\r\x1b[K");
-        }
-    }
-}
-
-fn throughput(requests: u64, sessions: u64, time: Duration) -> String {
-    let seconds = time.as_secs_f64().max(1e-9);
-    let rate = grouped((requests as f64 / seconds) as u64);
-    let (requests, sessions) = (grouped(requests), grouped(sessions));
-    format!("{requests} requests in {sessions} sessions, {seconds:.1} s, {rate} requests/s")
-}
-
-/// A number with commas between the thousands.
-fn grouped(number: u64) -> String {
-    let digits = number.to_string();
-    let first = (digits.len() + 2) % 3 + 1;
-    let (head, tail) = digits.split_at(first);
-    let mut text = head.to_string();
-    for (at, digit) in tail.chars().enumerate() {
-        if at % 3 == 0 {
-            text.push(',');
-        }
-        text.push(digit);
-    }
-    text
-}
-
 impl fmt::Display for Outcome {
     /// What a run came to. At a difference all but the session is comments, so that the whole can be
     /// replayed.
@@ -177,23 +158,57 @@ impl fmt::Display for Outcome {
         if self.show_coverage {
             notes = format!("{notes}\n\n{}", self.coverage);
         }
-        match &self.found {
-            None => writeln!(f, "The proved code and the {other} agree.\n{notes}"),
-            Some(found) => {
-                writeln!(f, "# The proved code and the {other} differ.\n{found}\n")?;
-                notes.lines().try_for_each(|line| writeln!(f, "# {line}"))
-            }
-        }
+        let (Some(first), Some(found)) = (&self.first, &self.found) else {
+            return writeln!(f, "The proved code and the {other} agree.\n{notes}");
+        };
+        writeln!(f, "# The proved code and the {other} differ.\n#")?;
+        comment(f, &first.to_string())?;
+        comment(f, &first.about(found.session.steps.len()))?;
+        writeln!(f, "{found}")?;
+        comment(f, &notes)
     }
 }
 
-#[cfg(test)]
-mod tests {
-    use super::*;
+fn comment(f: &mut fmt::Formatter<'_>, text: &str) -> fmt::Result {
+    text.lines().try_for_each(|line| writeln!(f, "{}", format!("# {line}").trim_end()))
+}
 
-    #[test]
-    fn numbers_are_grouped_by_thousands() {
-        let texts = [0, 12, 999, 1_000, 65_536, 10_000_000].map(grouped);
-        assert_eq!(texts, ["0", "12", "999", "1,000", "65,536", "10,000,000"]);
+impl First {
+    /// What became of it, played again alone.
+    fn about(&self, requests: usize) -> String {
+        let before = self.found.session.steps.len();
+        match self.again {
+            Some(true) => {
+                return format!("The same, shrunk from {before} requests to {requests}:\n")
+            }
+            Some(false) => {}
+            None => return "As it was found:\n".to_string(),
+        }
+        let (run, seed) = (grouped(self.requests), self.seed);
+        format!(
+            "THIS DOES NOT COME AGAIN when the session is played alone: the answer depends on what \
+             was\nasked before the session, or on chance. So the session below is not shrunk, and \
+             need not differ.\nTo look for it, repeat the run: seed {seed}, {run} requests.\n"
+        )
+    }
+}
+
+impl fmt::Display for First {
+    /// Where it was found, and what differed there.
+    fn fmt(&self, f: &mut fmt::Formatter<'_>) -> fmt::Result {
+        let First { found, session, kind, .. } = self;
+        let (session, run) = (grouped(*session), grouped(self.requests));
+        match found.session.steps.last() {
+            Some(step) => {
+                let (at, request) = (found.session.steps.len(), text::request(step));
+                write!(f, "First at request {run} of the run, request {at} of session {session} ")?;
+                writeln!(f, "(kind {kind}):\n  {request}")?;
+            }
+            None => {
+                write!(f, "First after request {run} of the run, where session {session} ")?;
+                writeln!(f, "(kind {kind}) begins and nothing is asked yet:")?;
+            }
+        }
+        writeln!(f, "{}\n", found.difference)
     }
 }

@@ -5,26 +5,35 @@ use std::io::{self, BufRead, Write};
 use bridge::Words;
 use session::World;
 
-use crate::protocol::{self, Line, Name, GREETING};
+use crate::line::{self, Read};
+use crate::protocol::{self, Line, Name, GREETING, LINE};
 
 /// Answers each line of the input with one line on the output, until the input ends. A line that
-/// cannot be read is answered by an error line that says what was expected.
+/// cannot be read is answered by an error line that says what was expected; one that is too long is
+/// answered before its end, and the rest of it passed over.
 pub fn serve(mut input: impl BufRead, mut output: impl Write) -> io::Result<()> {
     let mut world = World::zeros(0, 0);
     let (mut line, mut answer) = (Vec::new(), Vec::new());
     loop {
         line.clear();
-        if input.read_until(b'\n', &mut line)? == 0 {
+        let read = line::read(&mut input, &mut line)?;
+        if read == Read::End && line.is_empty() {
             return Ok(());
         }
         answer.clear();
-        let done = respond(&mut world, &String::from_utf8_lossy(&line), &mut answer);
+        let done = match read {
+            Read::TooLong => Err(format!("expected a line of at most {LINE} characters")),
+            _ => respond(&mut world, &String::from_utf8_lossy(&line), &mut answer),
+        };
         if let Err(expected) = done {
             answer = format!("error {expected}").into_bytes();
         }
         answer.push(b'\n');
         output.write_all(&answer)?;
         output.flush()?;
+        if read == Read::TooLong {
+            line::skip(&mut input)?;
+        }
     }
 }
 

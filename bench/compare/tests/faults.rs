@@ -1,19 +1,20 @@
 //! Seeded faults: each edit of bench/faults is made in a copy of the model, which is built into the
-//! simulator and compared with the proved code. Each must be found, and shrunk to fewer than ten
-//! requests. The sessions are left in bench/target/faults.
+//! simulator and compared with the proved code. Each must be found soon, whatever the seed, and with
+//! the first seed shrunk to fewer than six requests. The sessions are left in bench/target/faults.
 
 use std::path::{Path, PathBuf};
 use std::process::Command;
 use std::sync::Mutex;
 use std::{env, fs, thread};
 
-use compare::{run, Options};
+use compare::{run, Options, Outcome};
 
-/// How many requests a fault may stay unseen.
-const REQUESTS: u64 = 200_000;
+/// How many requests a fault may stay unseen, with each of these seeds.
+const REQUESTS: u64 = 20_000;
+const SEEDS: std::ops::RangeInclusive<u64> = 1..=3;
 
 /// A shrunk session has fewer requests than this.
-const SHORT: usize = 10;
+const SHORT: usize = 6;
 
 /// An edit: in which file, what stands there, and what takes its place.
 struct Edit {
@@ -121,43 +122,62 @@ fn build(name: &str, folder: &Path) {
     rustc(name, folder, &[&[&*main], &model[..], &output[..]].concat());
 }
 
-/// The number of requests of the shrunk session.
-fn find(name: &str) -> usize {
+/// What became of a fault.
+struct Seen {
+    name: String,
+    /// At which request of the run it was found, with each seed.
+    requests: Vec<u64>,
+    /// How many requests the shrunk session has.
+    shrunk: usize,
+}
+
+fn find(name: &str) -> Seen {
     let folder = target().join(name);
     copy(name, &folder);
     build(name, &folder);
-    let command = format!("exec '{}'", folder.join("simulator").display());
-    let options = Options { requests: REQUESTS, against: Some(command), ..Options::default() };
+    let outcomes: Vec<Outcome> = SEEDS.map(|seed| found(name, &folder, seed)).collect();
+    let first = &outcomes[0];
+    fs::write(folder.join("found.txt"), first.to_string()).expect("a place for the session");
+    let shrunk = first.found.as_ref().map_or(0, |found| found.session.steps.len());
+    let requests = outcomes.iter().map(|outcome| outcome.requests).collect();
+    Seen { name: name.to_string(), requests, shrunk }
+}
+
+/// The fault found with a seed; with the first one it is shrunk.
+fn found(name: &str, folder: &Path, seed: u64) -> Outcome {
+    let against = Some(format!("exec '{}'", folder.join("simulator").display()));
+    let (requests, shrink) = (REQUESTS, seed == *SEEDS.start());
+    let options = Options { requests, seed, against, shrink, ..Options::default() };
     let outcome = run(&options).expect("the faulty simulator runs");
-    fs::write(folder.join("found.txt"), outcome.to_string()).expect("a place for the session");
-    let found = outcome.found.unwrap_or_else(|| panic!("{name} was not found"));
-    found.session.steps.len()
+    assert!(outcome.found.is_some(), "{name} was not found with seed {seed}");
+    outcome
 }
 
 /// The faults left, taken by each of the threads in turn.
-fn find_all(names: Vec<String>) -> Vec<(String, usize)> {
-    let (left, lengths) = (Mutex::new(names), Mutex::new(Vec::new()));
+fn find_all(names: Vec<String>) -> Vec<Seen> {
+    let (left, all) = (Mutex::new(names), Mutex::new(Vec::new()));
     let work = || loop {
         let Some(name) = left.lock().expect("the faults left").pop() else {
             return;
         };
-        let length = find(&name);
-        lengths.lock().expect("the lengths").push((name, length));
+        let seen = find(&name);
+        all.lock().expect("what was seen").push(seen);
     };
     let threads = thread::available_parallelism().map_or(1, usize::from);
     thread::scope(|scope| (0..threads).for_each(|_| drop(scope.spawn(work))));
-    lengths.into_inner().expect("the lengths")
+    all.into_inner().expect("what was seen")
 }
 
 #[test]
 fn each_fault_is_found_and_shrunk() {
     let names = names();
-    assert!(names.len() >= 14);
-    let mut lengths = find_all(names);
-    lengths.sort();
-    for (name, length) in &lengths {
-        println!("{name}: {length} requests");
+    assert!(names.len() >= 77);
+    let mut all = find_all(names);
+    all.sort_by(|one, other| one.name.cmp(&other.name));
+    for Seen { name, requests, shrunk } in &all {
+        println!("{name}: found at {requests:?}, shrunk to {shrunk} requests");
     }
-    let long: Vec<_> = lengths.iter().filter(|(_, length)| *length >= SHORT).collect();
+    let long: Vec<&str> =
+        all.iter().filter(|seen| seen.shrunk >= SHORT).map(|seen| &*seen.name).collect();
     assert!(long.is_empty(), "not shrunk enough: {long:?}");
 }

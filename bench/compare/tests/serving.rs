@@ -1,5 +1,7 @@
 //! The proved code behind the line protocol.
 
+use std::io::{self, BufReader, Read};
+
 use compare::serve;
 
 /// The answers to some lines.
@@ -49,6 +51,16 @@ fn lines_that_cannot_be_read() {
         "error expected a place and bytes",
     ];
     assert_eq!(answers(lines), wanted);
+}
+
+/// A line that is too long is answered once, nothing of it is kept, and the next one is served.
+#[test]
+fn a_line_that_is_too_long() {
+    let lines = io::repeat(b'x').take(1 << 24).chain(&b"\nnorthbridge 1\n"[..]);
+    let mut output = Vec::new();
+    serve(BufReader::new(lines), &mut output).expect("a served input");
+    let wanted = "error expected a line of at most 16640 characters\nnorthbridge 1\n";
+    assert_eq!(String::from_utf8_lossy(&output), wanted);
 }
 
 #[test]

@@ -1,8 +1,10 @@
 //! A difference is shrunk to the shortest session, the same one each time.
 
-use bridge::{Operation, Reply, State, Words};
+use bridge::{Check, Operation, Reply, State, Words};
 use compare::{compare, Machine, Options, Outcome, Pair, Proved, Trouble};
-use session::World;
+use session::entry::{self, Entry};
+use session::token::Token;
+use session::{Session, World};
 
 /// The proved code with a fault: a revoke answers another token once so many were granted.
 struct Faulty {
@@ -64,6 +66,93 @@ fn shrunk_to_a_reset_and_what_is_needed() {
             assert_eq!((session.world.table.len(), session.world.memory.len()), (64, 1));
         }
     }
+}
+
+/// The proved code with a wrong rule: a read by the holder of a lock, through a derived token, is
+/// answered as if another held it.
+struct Stranger(Proved);
+
+impl Stranger {
+    fn is_derived(&self, token: u64) -> bool {
+        let number = Token::unpack(token).number as usize;
+        Entry::of(self.0.table(), number).kind() == entry::INDIRECT
+    }
+}
+
+impl Machine for Stranger {
+    fn name(&self) -> &str {
+        "stranger"
+    }
+
+    fn begin(&mut self, world: &World) -> Result<(), Trouble> {
+        self.0.begin(world)
+    }
+
+    fn serve(&mut self, request: &Words, buffer: &mut [u8]) -> Result<Reply, Trouble> {
+        let derived = self.is_derived(request.token);
+        let reply = self.0.serve(request, buffer)?;
+        let read = request.operation == Operation::Read as u64 && reply.refusal == 0;
+        let owner = Entry::of(self.0.table(), 0);
+        let wrong = read && derived && owner.get(entry::LOCKED) == 1;
+        Ok(if wrong { Reply { refusal: Check::Lock as u64, ..reply } } else { reply })
+    }
+
+    fn state(&self) -> State {
+        self.0.state()
+    }
+
+    fn table(&self) -> &[u8] {
+        self.0.table()
+    }
+
+    fn memory(&self) -> &[u8] {
+        self.0.memory()
+    }
+}
+
+/// Four requests show it from a reset on; fewer do, over a table that is handed over.
+#[test]
+fn shrunk_to_the_few_requests_that_a_wrong_rule_needs() {
+    for seed in 1..9 {
+        let pair = Pair::new(Box::new(Proved::new()), Box::new(Stranger(Proved::new())));
+        let outcome = compare(&Options { seed, ..Options::default() }, pair).expect("a run");
+        let first = outcome.first.as_ref().expect("a difference").found.session.steps.len();
+        let steps = outcome.found.as_ref().expect("a difference").session.steps.len();
+        assert!(steps <= 4 && steps <= first, "seed {seed}: {outcome}");
+    }
+}
+
+/// What is handed over is simplified too: fields that do not matter are zero, tags can be read.
+#[test]
+fn a_handed_over_world_is_simplified() {
+    let kind = Some("tables".to_string());
+    for seed in 1..5 {
+        let pair = Pair::new(Box::new(Proved::new()), Box::new(Stranger(Proved::new())));
+        let options = Options { seed, kind: kind.clone(), ..Options::default() };
+        let Session { world, steps } = compare(&options, pair).unwrap().found.unwrap().session;
+        assert!(world.memory.iter().all(|byte| *byte == 0));
+        assert!(steps.iter().all(|step| step.buffer.iter().all(|byte| *byte == 0)));
+        for number in 0..world.table.len() / entry::SIZE {
+            let entry = Entry::of(&world.table, number);
+            assert!(
+                entry.get(entry::TAG) <= number as u64 && entry.get(entry::USER) == 0
+                    || entry.kind() == entry::INDIRECT,
+                "seed {seed}, entry {number}"
+            );
+        }
+    }
+}
+
+/// A line as deep as a table is handed over: what is left of it is short.
+#[test]
+fn a_deep_line_is_shortened() {
+    let kind = Some("deep".to_string());
+    let pair = Pair::new(Box::new(Proved::new()), Box::new(Stranger(Proved::new())));
+    let options = Options { kind, ..Options::default() };
+    let Session { world, .. } = compare(&options, pair).unwrap().found.unwrap().session;
+    let entries = 0..world.table.len() / entry::SIZE;
+    let used = entries.filter(|number| !Entry::of(&world.table, *number).is_free()).count();
+    assert!(used <= 3, "{used} entries");
 }
 
 #[test]

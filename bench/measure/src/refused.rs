@@ -199,7 +199,8 @@ fn refused_in(standing: &'static str, world: &World, asked: &[(Words, usize)]) -
 }
 
 fn refusal_of_model(world: &World, request: &Words, buffer: usize) -> u64 {
-    Model.serve(request, &mut world.clone(), &mut vec![0xa5; buffer]).refusal
+    let reply = Model.serve(request, &mut world.clone(), &mut vec![0xa5; buffer]);
+    reply.expect("the model always answers").refusal
 }
 
 #[cfg(test)]

@@ -1,8 +1,10 @@
 //! An answer in words, on one line.
 
-use bridge::{refusal_words, Buffer, Operation, Place, Reply};
+use crate::cause::{causes, Lent};
+use bridge::{refusal_words, Buffer, Check, Operation, Place, Reply};
 use session::play::Played;
 use session::text::{bytes_text, token_text, Ask};
+use session::World;
 
 /// A buffer is shown up to this length.
 const SHORT: usize = 32;
@@ -10,7 +12,7 @@ const SHORT: usize = 32;
 /// Such as `3 ill-formed, an ancestor` or `0 granted, child=@1:0x1234`.
 pub fn answer_text(ask: &Ask, played: &Played) -> String {
     let reply = &played.reply;
-    let mut parts = vec![format!("{} {}", reply.refusal, refusal_words(reply.refusal))];
+    let mut parts = vec![format!("{} {}", reply.refusal, refusal_text(played))];
     parts.extend(place_text(reply.place));
     let names = ask.expected.as_ref().map_or([None, None], |expected| {
         [expected.names[0].as_deref(), expected.names[1].as_deref()]
@@ -20,6 +22,21 @@ pub fn answer_text(ask: &Ask, played: &Played) -> String {
     parts.extend(number_text(played.request.operation, reply));
     parts.extend(buffer_text(ask, played));
     parts.join(", ")
+}
+
+/// What the refusal's number means; of a bad request also why it is bad, as far as the tool sees it.
+fn refusal_text(played: &Played) -> String {
+    let words = refusal_words(played.reply.refusal);
+    if played.reply.refusal != Check::Request as u64 {
+        return words.to_string();
+    }
+    let World { state, table, memory } = &played.before;
+    let (state, table, memory) = (*state, table.len(), memory.len());
+    let lent = Lent { state, table, memory, buffer: played.buffer.len() };
+    match causes(&played.request, &lent).join("; ").as_str() {
+        "" => format!("{words}, though nothing in it is bad"),
+        causes => format!("{words}: {causes}"),
+    }
 }
 
 fn place_text(place: u64) -> Option<String> {

@@ -1,6 +1,9 @@
 //! The words behind a command: options, their values, and the rest.
 
+use std::time::Duration;
+
 use crate::outcome::Failure;
+use compare::WAIT;
 use session::text;
 
 /// Options are taken out by their names; what is left at the end is the rest.
@@ -54,6 +57,15 @@ impl Arguments {
         };
         let number = text::number(&value);
         number.map(Some).ok_or_else(|| self.failure(&format!("a number behind {name}"), &value))
+    }
+
+    /// How long a simulator may take for an answer: `--wait SECONDS`, at least one.
+    pub fn wait(&mut self) -> Result<Duration, Failure> {
+        match self.number("--wait")? {
+            None => Ok(WAIT),
+            Some(0) => Err(self.failure("at least 1 second behind --wait", "0")),
+            Some(seconds) => Ok(Duration::from_secs(seconds)),
+        }
     }
 
     /// What is left. An option that nobody took is unknown.

@@ -2,10 +2,13 @@
 
 pub mod answer;
 pub mod arguments;
+pub mod cause;
 pub mod command;
 pub mod commands;
+pub mod files;
 pub mod map;
 pub mod outcome;
+pub mod report;
 pub mod stored;
 pub mod style;
 
@@ -15,6 +18,7 @@ use std::process::ExitCode;
 use arguments::Arguments;
 use command::Command;
 use commands::COMMANDS;
+use compare::protocol::GREETING;
 use outcome::{Failure, Verdict};
 
 /// Runs a command line. The status is 0 for agreement, 1 for a difference, 2 for bad input.
@@ -45,6 +49,10 @@ fn dispatch(mut words: Vec<String>, out: &mut dyn Write) -> Result<Verdict, Fail
             write_help(out)?;
             return Ok(Verdict::Agreement);
         }
+        Some(word) if word == "--version" || word == "-V" => {
+            writeln!(out, "nb {}, line protocol {GREETING}", env!("CARGO_PKG_VERSION"))?;
+            return Ok(Verdict::Agreement);
+        }
         Some(_) => words.remove(0),
     };
     let command = find(&name)?;
@@ -69,6 +77,6 @@ fn write_help(out: &mut dyn Write) -> io::Result<()> {
         writeln!(out, "  nb {:<10}{}", command.name, command.about)?;
         writeln!(out, "  {:<13}for example: {}\n", "", command.example)?;
     }
-    writeln!(out, "nb COMMAND --help tells more. The status is 0 for agreement, 1 for a")?;
-    writeln!(out, "difference, 2 for bad input.")
+    writeln!(out, "nb COMMAND --help tells more, nb --version the version. The status is 0 for")?;
+    writeln!(out, "agreement, 1 for a difference, 2 for bad input.")
 }

@@ -82,7 +82,10 @@ fn bad_command_lines_are_status_2() {
     holds(&["replay", "--by", "nobody", "x"], "'nobody'");
     holds(&["replay", "--by"], "a value behind --by");
     holds(&["replay", "there-is-no-such.session"], "there-is-no-such.session");
-    holds(&["record"], "one folder");
+    holds(&["record"], "one file");
+    holds(&["record", "a", "b"], "one file");
+    holds(&["record", "--list", "a"], "one file");
+    holds(&["record", "there-is-no-such.session"], "there-is-no-such.session");
     holds(&["search", "--keys", "many", "x"], "a number behind --keys");
     holds(&["search", "a", "b"], "one file");
 }
@@ -94,6 +97,24 @@ fn bad_files_are_status_2_with_line_and_column() {
     assert_eq!((status, out.as_str()), (2, ""));
     assert!(error.contains("line 3, column 13: expected 'task'"), "{error}");
     assert!(error.contains("found 'tsak'"), "{error}");
+}
+
+/// What is read has a bound: a file without an end is told, and does not fill the machine.
+#[test]
+fn files_that_are_too_long_are_status_2() {
+    let (status, _, error) = run(&["replay", "/dev/zero"], "");
+    assert_eq!(status, 2);
+    let told = "nb: /dev/zero: expected a session file of at most 67108864 bytes, found more\n";
+    assert_eq!(error, told);
+    let folder = folder("bytes");
+    fs::create_dir_all(&folder).expect("a folder");
+    let file = folder.join("latin.session");
+    fs::write(&file, b"memory 64 entries 4 # \xe9\n").expect("a file");
+    let (status, _, error) = run(&["replay", &file.to_string_lossy()], "");
+    assert_eq!(status, 2);
+    let told = "expected text in UTF-8, found other bytes behind the first 22";
+    assert!(error.contains(told), "{error}");
+    let _ = fs::remove_dir_all(&folder);
 }
 
 #[test]
@@ -138,20 +159,62 @@ fn brief_has_one_line_for_each_file() {
 fn record_writes_the_sessions() {
     let folder = folder("record");
     let place = folder.join("new").to_string_lossy().into_owned();
-    let (status, text, _) = run(&["record", &place], "");
+    let (status, text, _) = run(&["record", "--stored", &place], "");
     assert_eq!(status, 0, "{text}");
     let name = "fifteen-cases.session";
     let written = fs::read(folder.join("new").join(name)).expect("a recorded session");
     assert_eq!(written, fs::read(sessions().join(name)).expect("the kept session"));
     fs::write(folder.join("file"), "").expect("a file");
     let file = folder.join("file").to_string_lossy().into_owned();
-    let (status, _, error) = run(&["record", &file], "");
+    let (status, _, error) = run(&["record", "--stored", &file], "");
     assert_eq!(status, 2);
     assert!(error.contains("expected a folder"), "{error}");
     let _ = fs::remove_dir_all(&folder);
     let (status, list, _) = run(&["record", "--list"], "");
     assert_eq!(status, 0);
     assert!(list.contains("Paper 01's session of 15 cases"), "{list}");
+}
+
+/// A user's own session becomes exact: it is replayed as it is, and no byte of it can be changed.
+#[test]
+fn record_makes_a_session_exact() {
+    let text = "# mine\nmemory 64 entries 4\nreset nonce 1\n\
+                derive root length 8 permissions R -> 0 as child  # a window\n\
+                write root 05\nread child 2 -> 0\n";
+    let (status, exact, error) = run(&["record", "-"], text);
+    assert_eq!((status, error.as_str()), (0, ""));
+    for part in ["# mine\n", "\nexact\n", "-> 0 as child=@1:0x", "# a window", "= at 0 05\n"] {
+        assert!(exact.contains(part), "{part} in\n{exact}");
+    }
+    assert!(exact.contains("-> 0 buffer 0500\n"), "{exact}");
+    assert_eq!(run(&["replay", "-"], &exact).0, 0);
+    assert_eq!(run(&["record", "-"], &exact).1, exact, "recorded again it is the same");
+    assert_eq!(run(&["replay", "-"], &exact.replace("= at 0 05\n", "")).0, 1);
+    let (status, told, _) = run(&["record", "-"], &text.replace("2 -> 0", "2 -> 5"));
+    assert_eq!(status, 1);
+    assert!(told.contains("line 6: refusal: expected 5"), "{told}");
+}
+
+#[test]
+fn the_version_is_told() {
+    let (status, text, _) = run(&["--version"], "");
+    let version = env!("CARGO_PKG_VERSION");
+    assert_eq!((status, text), (0, format!("nb {version}, line protocol northbridge 1\n")));
+}
+
+#[test]
+fn marks_of_other_encodings_are_told() {
+    let (status, _, error) = run(&["replay", "-"], "\u{feff}memory 64 entries 4\n");
+    assert_eq!(status, 2);
+    assert!(error.contains("line 1, column 1") && error.contains("a byte order mark"), "{error}");
+    let folder = folder("marks");
+    fs::create_dir_all(&folder).expect("a folder");
+    let file = folder.join("wide.session");
+    fs::write(&file, b"\xff\xfem\0e\0").expect("a file");
+    let (status, _, error) = run(&["replay", &file.to_string_lossy()], "");
+    assert_eq!(status, 2);
+    assert!(error.contains("found a byte order mark of UTF-16"), "{error}");
+    let _ = fs::remove_dir_all(&folder);
 }
 
 #[test]

@@ -42,7 +42,11 @@ fn recording_gives_the_kept_bytes() {
         .collect();
     written.sort();
     for (written, kept) in written.iter().zip(kept()) {
-        assert!(*written == kept, "{} is not as recorded: run 'nb record sessions'", kept.0);
+        assert!(
+            *written == kept,
+            "{} is not as recorded: run 'nb record --stored sessions'",
+            kept.0
+        );
     }
     assert_eq!(written.len(), kept().len());
 }

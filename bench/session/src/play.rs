@@ -1,23 +1,62 @@
 //! Playing a script: asking its requests one by one, and comparing what is expected.
 
 use crate::entry::Entry;
-use crate::server::Server;
+use crate::server::{Server, Trouble};
 use crate::text::{
     changes, print_standing, token_text, Ask, EntryLine, Expected, Names, Script, Standing,
     Unresolved, Word,
 };
+use crate::token::Token;
 use crate::world::World;
-use bridge::{refusal_words, Place, Reply, Words};
+use bridge::{refusal_words, Operation, Place, Reply, Words};
+use std::fmt;
 
 /// What came of one request.
 #[derive(Clone, Debug, PartialEq, Eq)]
 pub struct Played {
+    /// What stood before it.
+    pub before: World,
     pub request: Words,
     pub reply: Reply,
     /// What stands in the buffer afterwards.
     pub buffer: Vec<u8>,
     pub changes: Vec<Standing>,
     pub differences: Vec<Difference>,
+}
+
+/// Why a request has no answer.
+#[derive(Clone, Debug, PartialEq, Eq)]
+pub enum NoAnswer {
+    /// It was not asked, since a name in it stands for no token.
+    Unresolved(Unresolved),
+    /// It was not asked, since such a buffer cannot be lent to who serves.
+    TooLong { length: usize, longest: usize },
+    /// It was asked in vain.
+    Trouble(Trouble),
+}
+
+impl From<Unresolved> for NoAnswer {
+    fn from(unresolved: Unresolved) -> NoAnswer {
+        NoAnswer::Unresolved(unresolved)
+    }
+}
+
+impl From<Trouble> for NoAnswer {
+    fn from(trouble: Trouble) -> NoAnswer {
+        NoAnswer::Trouble(trouble)
+    }
+}
+
+impl fmt::Display for NoAnswer {
+    fn fmt(&self, to: &mut fmt::Formatter) -> fmt::Result {
+        match self {
+            NoAnswer::Unresolved(unresolved) => write!(to, "not asked: {unresolved}"),
+            NoAnswer::TooLong { length, longest } => {
+                write!(to, "not asked: its buffer has {length} bytes, of at most {longest}")
+            }
+            NoAnswer::Trouble(trouble) => write!(to, "no answer: {}", trouble.message()),
+        }
+    }
 }
 
 /// Something that is not as expected.
@@ -36,29 +75,42 @@ impl Difference {
 }
 
 /// A script that is being played.
-pub struct Player<'a, S> {
+pub struct Player<'a, S: ?Sized> {
     server: &'a mut S,
     exact: bool,
+    /// Whether the server has taken over the world.
+    begun: bool,
     pub world: World,
     pub names: Names,
 }
 
-impl<'a, S: Server> Player<'a, S> {
+impl<'a, S: Server + ?Sized> Player<'a, S> {
     pub fn new(script: &Script, server: &'a mut S) -> Player<'a, S> {
-        Player { server, exact: script.exact, world: script.world(), names: Names::new() }
+        let (exact, begun) = (script.exact, false);
+        Player { server, exact, begun, world: script.world(), names: Names::new() }
     }
 
     /// Asks one request. A request with a name that nobody gave is not asked.
-    pub fn play(&mut self, ask: &Ask) -> Result<Played, Unresolved> {
+    pub fn play(&mut self, ask: &Ask) -> Result<Played, NoAnswer> {
         let request = ask.resolve(&self.names)?;
+        let (length, longest) = (ask.buffer.len(), self.server.longest());
+        if length > longest {
+            return Err(NoAnswer::TooLong { length, longest });
+        }
+        if !self.begun {
+            self.server.begin(&self.world)?;
+            self.begun = true;
+        }
         let before = self.world.clone();
         let mut buffer = ask.buffer.clone();
-        let reply = self.server.serve(&request, &mut self.world, &mut buffer);
-        ask.add_names(Some(&reply), &mut self.names);
+        let reply = self.server.serve(&request, &mut self.world, &mut buffer)?;
+        let given = given(&request, &reply, &self.world);
+        ask.add_names(given, &mut self.names);
         let mut differences = self.answer_differences(ask, &reply, &buffer);
+        differences.extend(nothing_to_name(ask, &reply, given));
         differences.extend(self.standing_differences(ask, &before));
         let changes = changes(&before, &self.world);
-        Ok(Played { request, reply, buffer, changes, differences })
+        Ok(Played { before, request, reply, buffer, changes, differences })
     }
 
     /// Where answer and buffer are not as expected.
@@ -133,6 +185,34 @@ impl<'a, S: Server> Player<'a, S> {
     }
 }
 
+/// The tokens that an answer gives. A token may be 0, so that its word does not tell: the second one,
+/// a create's rest, is given if the named entry is still in use.
+fn given(request: &Words, reply: &Reply, after: &World) -> [Option<u64>; 2] {
+    let operation = Operation::of(request.operation).filter(|_| reply.refusal == 0);
+    let tokens = operation.map_or(0, |operation| operation.tokens().len());
+    let named = Token::unpack(request.token).number as usize;
+    let rest = tokens == 2 && !Entry::of(&after.table, named).is_free();
+    [Some(reply.first).filter(|_| tokens > 0), Some(reply.second).filter(|_| rest)]
+}
+
+/// Names for tokens that a granted request did not give.
+fn nothing_to_name(ask: &Ask, reply: &Reply, given: [Option<u64>; 2]) -> Vec<Difference> {
+    let Some(expected) = ask.expected.as_ref().filter(|_| reply.refusal == 0) else {
+        return Vec::new();
+    };
+    let names = expected.names.iter().zip(given).zip(["first token", "second token"]);
+    let without = names.filter_map(|((name, given), what)| match (name, given) {
+        (Some(name), None) => Some((name, what)),
+        _ => None,
+    });
+    let difference = |(name, what): (&String, &str)| Difference {
+        what: what.to_string(),
+        expected: format!("one for '{name}'"),
+        given: "none".to_string(),
+    };
+    without.map(difference).collect()
+}
+
 fn place_text(place: u64) -> String {
     Place::of(place).map_or_else(|| place.to_string(), |place| place.words().to_string())
 }
@@ -157,7 +237,7 @@ pub fn record<S: Server>(script: &Script, server: &mut S) -> Result<Script, NotR
     for ask in &mut recorded.asks {
         let played = player
             .play(ask)
-            .map_err(|unresolved| NotRecorded::Unresolved { line: ask.line, unresolved })?;
+            .map_err(|no_answer| NotRecorded::NoAnswer { line: ask.line, no_answer })?;
         if !played.differences.is_empty() {
             let differences = played.differences;
             return Err(NotRecorded::Differs { line: ask.line, differences });
@@ -170,7 +250,7 @@ pub fn record<S: Server>(script: &Script, server: &mut S) -> Result<Script, NotR
 /// Why a script was not recorded.
 #[derive(Clone, Debug, PartialEq, Eq)]
 pub enum NotRecorded {
-    Unresolved { line: usize, unresolved: Unresolved },
+    NoAnswer { line: usize, no_answer: NoAnswer },
     Differs { line: usize, differences: Vec<Difference> },
 }
 

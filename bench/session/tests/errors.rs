@@ -19,7 +19,7 @@ fn holds(text: &str, place: (usize, usize), expected: &str, found: &str) {
 
 /// An error in a line behind a sound start.
 fn holds_in(line: &str, column: usize, expected: &str, found: &str) {
-    let text = format!("memory 64 entries 4\nreset nonce 1 -> 0 as one\n{line}\n");
+    let text = format!("memory 64 entries 4\nrevoke root -> 0 as one\n{line}\n");
     holds(&text, (3, column), expected, found);
 }
 
@@ -82,7 +82,11 @@ fn requests() {
     holds_in("read root 1 task 7 task 8", 20, "'task' once only", "'task'");
     holds_in("write root", 11, "bytes: pairs of hex digits", "the line's end");
     holds_in("write root 0g", 12, "bytes: pairs of hex digits", "'0g'");
-    holds_in("write root 00*99999999999", 12, "bytes", "'00*99999999999'");
+    holds_in("write root 00*99999999999", 12, "at most 67108864 bytes", "'00*99999999999'");
+    holds_in("write root 0011 00*67108863", 17, "at most 67108864 bytes", "'00*67108863'");
+    holds_in(&format!("write root 00*{}", "9".repeat(30)), 12, "at most 67108864 bytes", "'00*9");
+    holds_in("write root 00*", 12, "bytes: pairs of hex digits", "'00*'");
+    holds_in("read root 67108865", 11, "a number from 0 to 67108864", "'67108865'");
     holds_in("merge root", 11, "a token", "the line's end");
     holds_in("lock root offset 5", 11, "'task', 'length'", "'offset'");
     holds_in("derive root offset", 19, "the offset", "the line's end");
@@ -109,6 +113,33 @@ fn results() {
     holds_in("drop root -> 0 number 1 number 1", 25, "'number' once only", "'number'");
 }
 
+/// A name is for a token that the request gives.
+#[test]
+fn names_of_tokens_that_are_not_given() {
+    let none = "no name, as this request gives no token";
+    for request in ["reset nonce 1", "read root 1", "clone root", "lock root task 1", "drop root"] {
+        holds_in(&format!("{request} -> 0 as two"), request.len() + 7, none, "'as'");
+    }
+    holds_in("operation 13 -> 0 as two", 19, none, "'as'");
+    let one = "one name, as this request gives one token";
+    holds_in("revoke root -> 0 as two three", 25, one, "'three'");
+    holds_in("derive root length 1 permissions R -> 0 as - two", 46, one, "'two'");
+}
+
+/// A number that does not fit is told as such, wherever it stands.
+#[test]
+fn numbers_of_more_than_64_bits() {
+    let wide = "', a number of more than 64 bits";
+    holds_in("reset nonce 18446744073709551616", 13, "the first nonce", wide);
+    holds_in("read root 1 task 0x1_0000_0000_0000_0000", 18, "a task", wide);
+    holds_in("read 99999999999999999999 1", 6, "a token", wide);
+    holds_in("read root 99999999999999999999", 11, "the number of bytes", wide);
+    holds_in("derive root length 1 permissions 99999999999999999999", 34, "permissions", wide);
+    holds_in("drop root -> 0 number 99999999999999999999", 23, "drop's number", wide);
+    holds("memory 99999999999999999999 entries 4\n", (1, 8), "the memory's length", wide);
+    assert!(!error("memory 64 entries 4\nread root 1 task x\n").found.contains("64 bits"));
+}
+
 #[test]
 fn what_must_stand() {
     let holds = |line: &str, column, expected: &str| {
@@ -125,7 +156,7 @@ fn what_must_stand() {
 fn exact_sessions() {
     let exact = |line: &str| format!("memory 64 entries 4\nexact\n{line}\n");
     holds(&exact("reset nonce 1"), (3, 14), "'->' and the answer", "the line's end");
-    holds(&exact("reset nonce 1 -> 0 as one"), (3, 23), "'=' and its token", "'one'");
+    holds(&exact("revoke root -> 0 as one"), (3, 21), "'=' and its token", "'one'");
 }
 
 #[test]
@@ -136,6 +167,14 @@ fn lines_that_go_on() {
     holds("memory 64 entries 4\n  \\\n", (2, 3), "a word before", "");
     holds("memory 64 entries 4\nreset \\ # on\n", (2, 8), "the line's end", "a comment");
     assert!(parse("memory 64 entries 4\r\nreset \\\r\n nonce 1 -> 0\r\n").is_ok());
+}
+
+/// A short text can stand for many bytes; all together have a bound.
+#[test]
+fn bytes_of_all_lines_together() {
+    let lines = "write root 00*67108864\n".repeat(4);
+    let text = format!("memory 64 entries 4\n{lines}write root 00*5\n");
+    holds(&text, (6, 1), "at most 268435456 bytes in all lines together", "'write'");
 }
 
 /// Columns count characters, not bytes.

@@ -1,6 +1,6 @@
 //! Playing scripts: what is expected, and what is marked.
 
-use session::play::{goes_as_expected, record, Player};
+use session::play::{goes_as_expected, record, NoAnswer, Player};
 use session::server::Proved;
 use session::text::{parse, print_script, Script, Unresolved};
 
@@ -66,13 +66,38 @@ fn names_stand_for_what_is_given_or_stated() {
     let mut player = Player::new(&refused, &mut proved);
     assert!(player.play(&refused.asks[0]).is_ok());
     assert_eq!(player.play(&refused.asks[1]).unwrap().differences.len(), 1);
-    let not_given = Unresolved::NotGiven("child".to_string());
+    let not_given = NoAnswer::Unresolved(Unresolved::NotGiven("child".to_string()));
     assert_eq!(player.play(&refused.asks[2]), Err(not_given));
     let wide =
         script("derive root length 4 permissions R encoding 1 -> 0 as child\nread child+1 1");
     let mut player = Player::new(&wide, &mut proved);
     assert!(player.play(&wide.asks[0]).is_ok() && player.play(&wide.asks[1]).is_ok());
-    assert_eq!(player.play(&wide.asks[2]), Err(Unresolved::DoesNotFit("child".to_string())));
+    let no_room = Unresolved::DoesNotFit("child".to_string());
+    assert_eq!(player.play(&wide.asks[2]), Err(no_room.into()));
+}
+
+/// A create of the whole gives no rest, so that there is nothing to name; token 0 is no stand-in.
+#[test]
+fn a_name_for_a_token_that_is_not_given() {
+    let whole = "create root length 64 permissions R -> 0 as part rest";
+    assert_eq!(differences(whole), ["second token: one for 'rest' / none"]);
+    let stated = "create root length 64 permissions R -> 0 as - rest=root";
+    assert_eq!(differences(stated), ["second token: one for 'rest' / none"]);
+    let refused = script(&format!("{whole}\nread rest 1"));
+    let mut proved = Proved;
+    let mut player = Player::new(&refused, &mut proved);
+    let played: Vec<_> = refused.asks.iter().map(|ask| player.play(ask)).collect();
+    let not_given = Unresolved::NotGiven("rest".to_string());
+    assert_eq!(played[2], Err(not_given.into()));
+    assert_eq!(differences("create root length 63 permissions R -> 0 as part rest"), [""; 0]);
+}
+
+/// A rest whose token is 0 was given all the same: its number is 0 and its tag has come to 0.
+#[test]
+fn a_given_token_may_be_0() {
+    let text = include_str!("../../sessions/rest-with-tag-zero.session");
+    assert!(text.contains(" rest=root"), "{text}");
+    assert!(goes_as_expected(&parse(text).expect("a session"), &mut Proved));
 }
 
 /// A recorded script fixes every byte: one bit changed anywhere in it is noticed.

@@ -20,7 +20,7 @@
 #![forbid(unsafe_code)]
 
 use std::fmt::Write as _;
-use std::io::{self, BufRead, Write};
+use std::io::{self, BufRead, Read, Write};
 
 use model::{serve, Request, State};
 
@@ -32,14 +32,23 @@ struct World {
     memory: Vec<u8>,
 }
 
+/// No line of the bench has more characters: 8,192 bytes, two digits each, and words before them.
+const LINE: u64 = 16_640;
+
+/// No table or memory of the bench has more bytes.
+const WORLD: u64 = 1 << 28;
+
 fn main() -> io::Result<()> {
     let mut world = World::default();
-    let mut output = io::stdout().lock();
-    for line in io::stdin().lock().lines() {
-        let answer = answer(&mut world, &line?).unwrap_or_else(|why| format!("error {why}"));
+    let (mut input, mut output) = (io::stdin().lock(), io::stdout().lock());
+    let mut line = String::new();
+    // What is longer is read in parts, and each of them answered by an error.
+    while input.by_ref().take(LINE + 1).read_line(&mut line)? > 0 {
+        let answer = answer(&mut world, &line).unwrap_or_else(|why| format!("error {why}"));
         writeln!(output, "{answer}")?;
         // The bench waits for each answer.
         output.flush()?;
+        line.clear();
     }
     Ok(())
 }
@@ -61,6 +70,9 @@ fn answer(world: &mut World, line: &str) -> Result<String, String> {
 /// A table and a memory of zeros, and a state.
 fn begin(world: &mut World, words: &[&str]) -> Result<String, String> {
     let [table, memory, key0, key1, last, next] = numbers(words)?;
+    if table.max(memory) > WORLD {
+        return Err(format!("expected a table and a memory of at most {WORLD:x} bytes"));
+    }
     let state = State { key0, key1, last, next };
     *world = World { state, table: vec![0; table as usize], memory: vec![0; memory as usize] };
     Ok("ok".to_string())

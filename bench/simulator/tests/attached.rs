@@ -1,5 +1,7 @@
 //! The simulator attached to the bench, as it is and with what it says spoilt on the way.
 
+use std::time::Duration;
+
 use compare::{run, Difference, Options, Outcome};
 
 const SIMULATOR: &str = env!("CARGO_BIN_EXE_simulator");
@@ -46,7 +48,8 @@ fn another_byte_of_a_table_is_found() {
 #[test]
 fn an_answer_that_cannot_be_read_is_a_difference() {
     let outcome = spoilt("s/^answer 9 .*/nonsense/");
-    assert!(trouble(&outcome).contains("'nonsense': expected answer, nine words"), "{outcome}");
+    let told = trouble(&outcome);
+    assert!(told.contains("'nonsense' to 'serve ") && told.contains("nine words"), "{outcome}");
     assert!(outcome.found.expect("a difference").session.steps.len() < 4);
 }
 
@@ -65,6 +68,39 @@ fn an_end_in_the_middle_is_a_difference() {
     assert_eq!(outcome.found.expect("a difference").session.steps.len(), 1);
 }
 
+/// Nothing of such an answer is kept: what is read has a bound.
+#[test]
+fn an_answer_without_an_end_is_a_difference() {
+    let endless = "while read line; do case $line in serve*) yes x | tr -d '\\n';; \
+                   north*) echo $line;; *) echo ok;; esac; done";
+    let outcome = against(endless, 100).expect("a run");
+    let told = trouble(&outcome);
+    assert!(told.contains("'xxx") && told.contains("at most 16640 characters"), "{told}");
+    let error = against("yes x | tr -d '\\n'", 100).unwrap_err();
+    assert!(error.contains("at most 16640 characters"), "{error}");
+}
+
+/// The line that got no answer is told, and how long it was waited for.
+#[test]
+fn silence_is_a_difference() {
+    let against = Some(format!("sed -u '/^serve 9 /d' | '{SIMULATOR}'"));
+    let options = Options { requests: 3_000, against, ..Options::default() };
+    let outcome = run(&Options { wait: Duration::from_millis(300), ..options }).expect("a run");
+    let told = trouble(&outcome);
+    assert!(told.contains("kept silent for 0.3 s when asked 'serve 9 "), "{told}");
+    let first = outcome.first.as_ref().expect("a difference");
+    assert_eq!(first.found.session.steps.last().expect("a request").request.operation, 9);
+    assert!(first.again == Some(true) && outcome.to_string().contains("\n#   drop "), "{outcome}");
+}
+
+#[test]
+fn a_command_that_says_nothing_at_all() {
+    let options = Options { against: Some("sleep 1000".to_string()), ..Options::default() };
+    let error = run(&Options { wait: Duration::from_millis(300), ..options }).unwrap_err();
+    let told = "kept silent for 0.3 s when asked 'northbridge 1'";
+    assert!(error.contains(told) && error.contains("--wait"), "{error}");
+}
+
 #[test]
 fn a_command_that_is_not_there() {
     let error = against("./no-such-simulator 2> /dev/null", 10).unwrap_err();
@@ -74,5 +110,5 @@ fn a_command_that_is_not_there() {
 #[test]
 fn a_command_that_does_not_speak_the_protocol() {
     let error = against("echo hello", 10).unwrap_err();
-    assert!(error.contains("'hello': expected northbridge 1"), "{error}");
+    assert!(error.contains("'hello' to 'northbridge 1': expected northbridge 1"), "{error}");
 }

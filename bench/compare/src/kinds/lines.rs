@@ -1,8 +1,8 @@
 //! Lines of a few links with one bad link or entry at any height, asked through every entry.
 
 use bridge::Operation;
-use session::entry::{self, Entry};
-use session::token;
+use session::entry::{self, Entry, Field};
+use session::token::{self, Token};
 use session::World;
 
 use crate::player::Player;
@@ -21,12 +21,15 @@ pub fn play(player: &mut Player) {
 fn with_fault(player: &mut Player, fault: u64) {
     let entries = player.dice.between(3, 9) as usize;
     let mut world = worlds::line(player, entries, 64, 1);
-    let number = player.dice.index(entries);
+    // At any height, but mostly with a link or more below it.
+    let below = player.dice.one_of(&[0, 1, 2, 2]);
+    let number = player.dice.index(entries - below);
     let entry = Entry::of(&world.table, number);
     spoil(player, entry, fault).store(&mut world.table, number);
     lock(player, &mut world);
     player.begin(world);
-    for _ in 0..4 {
+    some_requests(player, entries - 1);
+    for _ in 0..3 {
         let number = player.dice.index(entries);
         some_requests(player, number);
     }
@@ -58,7 +61,7 @@ pub fn climbs(player: &mut Player) {
 }
 
 /// How many faults `spoil` knows.
-const FAULTS: u64 = 12;
+const FAULTS: u64 = 16;
 
 /// One fault, or a count, in one entry.
 fn spoil(player: &mut Player, entry: Entry, fault: u64) -> Entry {
@@ -75,8 +78,19 @@ fn spoil(player: &mut Player, entry: Entry, fault: u64) -> Entry {
         8 => entry.with_count(2),
         9 => entry.with(entry::PARENT, token::packed(1, 0, 1 << player.dice.below(46), 0)),
         10 => entry.with(entry::KIND, 3).with(entry::NONCE, nonce + 1),
+        11 => entry.with(entry::LOCKABLE, 1 - entry.get(entry::LOCKABLE)),
+        12 => entry.with(entry::LOCKED, 1 - entry.get(entry::LOCKED)),
+        13 => entry.with_field(Field::Zeros, 1 << player.dice.below(55)),
+        14 => in_another_encoding(player, entry),
         _ => entry,
     }
+}
+
+/// The parent's token in an encoding that a parent must not have.
+fn in_another_encoding(player: &mut Player, entry: Entry) -> Entry {
+    let Token { tag, number, .. } = Token::unpack(entry.field(Field::Parent));
+    let encoding = player.dice.one_of(&[0, 2, 3]);
+    entry.with_field(Field::Parent, token::packed(encoding, tag, number, 0))
 }
 
 /// Locks the owner now and then.

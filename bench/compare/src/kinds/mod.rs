@@ -1,11 +1,13 @@
 //! The kinds of sessions, each with what it reaches that plain random requests do not.
 
+mod beyond;
 mod bits;
 mod counts;
 mod deep;
 mod encodings;
 mod large;
 mod lines;
+mod lockable;
 mod locks;
 mod merges;
 mod nonces;
@@ -47,6 +49,8 @@ pub const ALL: &[Kind] = &[
     kind("merges", 120, merges::play, "parts joined in right and wrong order, also with itself"),
     kind("round", 80, round::play, "numbers going round over free entries that hold rubbish"),
     kind("tables", 150, tables::play, "handed-over tables: ill-formed, dead, overlapping"),
+    kind("beyond", 100, beyond::play, "handed-over children with rights and bytes of no ancestor"),
+    kind("lockable", 60, lockable::play, "neighbours cut, joined and locked, Lockable or not"),
     kind("lines", 100, lines::play, "lines with one bad link or entry at any height, and climbs"),
     kind("climbs", 100, lines::climbs, "drops that climb, with counts of 0, 1 and 2 on their way"),
     kind("counts", 100, counts::play, "counts at 0, 1, 2, 65,534 and 65,535"),

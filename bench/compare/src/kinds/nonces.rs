@@ -7,6 +7,7 @@ use crate::player::Player;
 use crate::{wild, worlds};
 
 pub fn play(player: &mut Player) {
+    last_one(player);
     let memory = player.dice.one_of(&[4, 64, 256]);
     let first_nonce = SPENT - player.dice.between(1, 14);
     let entries = player.dice.one_of(&[2, 3, 4, 8]);
@@ -19,6 +20,14 @@ pub fn play(player: &mut Player) {
         each_issue(player);
     }
     wild::play(player, 10);
+}
+
+/// One nonce left: enough for a create of the whole, and too few for one of a part.
+fn last_one(player: &mut Player) {
+    for length in [4, 3] {
+        worlds::reset(player, 3, 4, SPENT - 1);
+        player.create(0, length, 7);
+    }
 }
 
 /// The same table with another next nonce.

@@ -5,6 +5,7 @@ use bridge::{Operation, Words};
 use session::entry::{self, Entry};
 use session::World;
 
+use crate::limits::SPENT;
 use crate::player::Player;
 use crate::{wild, worlds};
 
@@ -19,6 +20,7 @@ pub fn play(player: &mut Player) {
         _ => player.dice.one_of(&TABLES),
     };
     let memory = player.dice.one_of(&MEMORIES);
+    settings(player);
     player.begin(World::zeros(table, memory));
     every_operation(player);
     player.reset([1, 2], 1);
@@ -28,6 +30,20 @@ pub fn play(player: &mut Player) {
         buffers(player, length);
     }
     every_operation(player);
+}
+
+/// A sound world, with each word of the state at and beside its limits.
+fn settings(player: &mut Player) {
+    let entries = 4;
+    let lasts = [entries - 1, entries].map(|last| [last, 1]);
+    let nonces = [0, 1, SPENT, SPENT + 1].map(|nonce| [0, nonce]);
+    for [last_number, next_nonce] in lasts.into_iter().chain(nonces) {
+        let mut world = World::zeros(entry::SIZE * entries as usize, 8);
+        Entry::direct(0, 8).store(&mut world.table, 0);
+        world.state = worlds::handed(worlds::key(player), last_number, next_nonce);
+        player.begin(world);
+        player.read(0, 1, 0);
+    }
 }
 
 fn every_operation(player: &mut Player) {

@@ -52,6 +52,6 @@ fn create(player: &mut Player, number: usize) {
     let lengths = [whole + 1, (1 << 32) + 1, (1 << 32) + whole, 1 << 63, u64::MAX, whole, 1];
     let length = player.dice.one_of(&lengths);
     let (operation, token) = (Operation::Create as u64, player.token(number));
-    let permissions = player.dice.one_of(&[0, 0, 7]);
+    let permissions = player.dice.one_of(&[0, 7]);
     player.ask(Words { operation, token, length, permissions, ..Words::default() });
 }

@@ -16,18 +16,20 @@ pub const COMMAND: Command = Command {
 };
 
 const HELP: &str = "\
-nb compare [--requests N] [--seed S] [--against COMMAND] [--kind NAME] [--guard before|behind]
-           [--coverage]
+nb compare [--requests N] [--seed S] [--against COMMAND] [--wait SECONDS] [--kind NAME]
+           [--guard before|behind] [--coverage]
 
 Plays random sessions on the proved code and on the model together. After each request it compares
 refusal with place, tokens, drop's number, state, and every byte of table, memory and buffer; and a
-refused request must leave all as it was. At a difference the session is shrunk to a shortest one
-that still differs, and printed as 'nb replay' reads it, with what the proved code answers.
+refused request must leave all as it was. At a difference it tells the request that showed it, and
+shrinks the session to a short one that still differs in a fresh process, printed as 'nb replay'
+reads it, with what the proved code answers. If it does not come again there, it says so.
 
     --requests N         how many requests (1000000)
     --seed S             which sessions: one seed always gives the same (1)
     --against COMMAND    a simulator in place of the model: a command for the shell that speaks the
                          line protocol of 'nb serve' on its standard input and output
+    --wait SECONDS       how long the command may take for an answer (10)
     --kind NAME          sessions of one kind only
     --guard before       each slice lent to the proved code begins behind an unmapped page;
     --guard behind       or it ends before one
@@ -64,9 +66,11 @@ fn options(arguments: &mut Arguments) -> Result<Options, Failure> {
         requests: arguments.number("--requests")?.unwrap_or(usual.requests),
         seed: arguments.number("--seed")?.unwrap_or(usual.seed),
         against: arguments.value("--against")?,
+        wait: arguments.wait()?,
         guard: guard.transpose().map_err(|why| Failure::Input(format!("compare: {why}")))?,
         kind: arguments.value("--kind")?,
         coverage: arguments.flag("--coverage"),
+        shrink: usual.shrink,
     })
 }
 

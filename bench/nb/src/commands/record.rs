@@ -1,4 +1,4 @@
-//! `nb record`: writes the stored conformance sessions with their results.
+//! `nb record`: writes sessions with every result, a user's own or the stored set.
 
 use std::fs;
 use std::io::Write;
@@ -6,6 +6,7 @@ use std::path::Path;
 
 use crate::arguments::Arguments;
 use crate::command::Command;
+use crate::files;
 use crate::outcome::{Failure, Verdict};
 use crate::stored::{self, Stored};
 use session::play::{record, NotRecorded};
@@ -14,40 +15,66 @@ use session::text::{parse, print_script};
 
 pub const COMMAND: Command = Command {
     name: "record",
-    about: "writes the stored conformance sessions, with the proved code's results",
-    example: "nb record sessions",
+    about: "prints a session with every result of the proved code, so that each byte is fixed",
+    example: "nb record demo.session > exact.session",
     help: HELP,
     run,
 };
 
 const HELP: &str = "\
-nb record DIR
+nb record FILE
+nb record --stored DIR
+nb record --list
 
-Writes the set of conformance sessions to DIR, one file each, with every result as the proved code
+Asks the requests of a session file, and prints the session with every result as the proved code
 gives it: refusal and place, tokens, drop's number, the buffer, and each byte of state, table and
-memory that a request changed. 'nb replay' checks them. DIR is made if it is not there.
+memory that a request changed. Comments and names stay. What the file expects must come true. '-'
+reads the standard input.
 
-    nb record --list     tells what each session is about
+    --stored DIR     writes the set of conformance sessions to DIR, one file each; DIR is made if it
+                     is not there
+    --list           tells what each of them is about
 
 For example:
 
-    nb record sessions && nb replay --brief sessions/*.session
+    nb record demo.session > exact.session && nb replay exact.session
 
-The status is 0 if all were written, 1 if the proved code does not give what a session states.
+    echo 'memory 64 entries 4
+    reset nonce 1
+    derive root length 8 permissions R -> 0 as child
+    read child 8' | nb record -
+
+    nb record --stored sessions && nb replay --brief sessions/*.session
+
+The status is 0 if all were written, 1 if the proved code does not give what a session states, 2 if a
+file cannot be read.
 ";
 
 fn run(mut arguments: Arguments, out: &mut dyn Write) -> Result<Verdict, Failure> {
-    let list = arguments.flag("--list");
+    let (list, folder) = (arguments.flag("--list"), arguments.value("--stored")?);
     let rest = arguments.rest()?;
-    let sessions = stored::all();
-    match (list, rest.as_slice()) {
-        (true, []) => write_list(&sessions, out),
-        (false, [folder]) => write_all(Path::new(folder), &sessions, out),
-        (_, found) => {
+    match (list, folder, rest.as_slice()) {
+        (true, None, []) => write_list(&stored::all(), out),
+        (false, Some(folder), []) => write_all(Path::new(&folder), &stored::all(), out),
+        (false, None, [file]) => write_one(file, out),
+        (_, _, found) => {
             let found = found.len();
-            Err(Failure::Input(format!("record: expected one folder, found {found} words")))
+            let expected = "one file, or --stored and a folder, or --list";
+            Err(Failure::Input(format!("record: expected {expected}, found {found} words")))
         }
     }
+}
+
+/// Prints a user's own session.
+fn write_one(file: &str, out: &mut dyn Write) -> Result<Verdict, Failure> {
+    match record(&files::read(file)?, &mut Proved) {
+        Ok(script) => write!(out, "{}", print_script(&script))?,
+        Err(reason) => {
+            writeln!(out, "{file}: {}", not_recorded(&reason))?;
+            return Ok(Verdict::Difference);
+        }
+    }
+    Ok(Verdict::Agreement)
 }
 
 fn write_list(sessions: &[Stored], out: &mut dyn Write) -> Result<Verdict, Failure> {
@@ -90,7 +117,7 @@ pub fn recorded(stored: &Stored) -> Result<String, String> {
 
 fn not_recorded(reason: &NotRecorded) -> String {
     match reason {
-        NotRecorded::Unresolved { line, unresolved } => format!("line {line}: {unresolved}"),
+        NotRecorded::NoAnswer { line, no_answer } => format!("line {line}: {no_answer}"),
         NotRecorded::Differs { line, differences } => {
             let told = differences
                 .iter()

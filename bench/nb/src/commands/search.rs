@@ -2,9 +2,9 @@
 
 use std::io::Write;
 
-use super::replay;
 use crate::arguments::Arguments;
 use crate::command::Command;
+use crate::files;
 use crate::outcome::{Failure, Verdict};
 use bridge::Operation;
 use session::play::search;
@@ -46,7 +46,7 @@ fn run(mut arguments: Arguments, out: &mut dyn Write) -> Result<Verdict, Failure
         let found = files.len();
         return Err(Failure::Input(format!("search: expected one file, found {found}")));
     };
-    let mut script = replay::read(file)?;
+    let mut script = files::read(file)?;
     let first =
         script.asks.first_mut().filter(|ask| ask.words.operation == Operation::Reset as u64);
     let Some(line) = first.map(|ask| ask.line) else {

@@ -31,7 +31,8 @@ Answers each line on the standard input by one line on the standard output, unti
 
 Numbers are hexadecimal without a prefix, bytes two digits each, and - stands for no bytes. 'world'
 gives a table and a memory of so many zero bytes, and a state; 'table' and 'memory' put bytes into
-them; 'serve' gives a request's eight words and its buffer.
+them; 'serve' gives a request's eight words and its buffer. No line holds more than 8192 bytes, or
+has more than 16640 characters.
 
 For example:
 

@@ -16,15 +16,20 @@ const ITEM: usize = 16;
 /// After so many characters a line ends.
 const LINE: usize = 72;
 
-/// One item: its hex digits and how often they stand.
+/// One item: its hex digits and how often they stand. More times than a number can tell are as many
+/// as it can.
 fn item(word: &str) -> Option<(Vec<u8>, usize)> {
     let (hex, times) = match word.split_once('*') {
-        Some((hex, times)) => (hex, times.parse().ok()?),
+        Some((hex, times)) => (hex, repeats(times)?),
         None => (word, 1),
     };
     let bytes = hex.as_bytes().chunks(2).map(pair).collect::<Option<Vec<u8>>>()?;
-    let fits = bytes.len().checked_mul(times).is_some_and(|all| all <= LIMIT);
-    (!bytes.is_empty() && fits).then_some((bytes, times))
+    (!bytes.is_empty()).then_some((bytes, times))
+}
+
+fn repeats(times: &str) -> Option<usize> {
+    let digits = !times.is_empty() && times.bytes().all(|letter| letter.is_ascii_digit());
+    digits.then(|| times.parse().unwrap_or(usize::MAX))
 }
 
 fn pair(pair: &[u8]) -> Option<u8> {
@@ -37,10 +42,11 @@ pub fn read(cursor: &mut Cursor) -> Result<Vec<u8>, Error> {
     let mut bytes = Vec::new();
     let mut found = false;
     while let Some((part, times)) = cursor.peek().and_then(item) {
-        if bytes.len() + part.len() * times > LIMIT {
-            return Err(cursor.error(&format!("at most {LIMIT} bytes")));
+        let length = part.len().checked_mul(times).and_then(|all| all.checked_add(bytes.len()));
+        if length.is_none_or(|length| length > LIMIT) {
+            return Err(cursor.error(&format!("at most {LIMIT} bytes in one place")));
         }
-        (0..times).for_each(|_| bytes.extend_from_slice(&part));
+        bytes.extend(part.repeat(times));
         cursor.next("")?;
         found = true;
     }

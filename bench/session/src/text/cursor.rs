@@ -39,7 +39,7 @@ impl<'a> Cursor<'a> {
         expected: &str,
         read: impl FnOnce(&str) -> Option<T>,
     ) -> Result<T, Error> {
-        let value = self.peek().and_then(read).ok_or_else(|| self.error(expected))?;
+        let value = self.peek().and_then(read).ok_or_else(|| self.value_error(expected))?;
         self.at += 1;
         Ok(value)
     }
@@ -69,6 +69,15 @@ impl<'a> Cursor<'a> {
     /// An error at the word before.
     pub fn error_before(&self, expected: &str) -> Error {
         self.error_at(self.at.saturating_sub(1), expected)
+    }
+
+    /// An error at the next word, which is no such value; a number that is too wide is told as such.
+    pub fn value_error(&self, expected: &str) -> Error {
+        let mut error = self.error(expected);
+        if self.peek().is_some_and(words::is_too_wide) {
+            error.found.push_str(", a number of more than 64 bits");
+        }
+        error
     }
 
     pub fn error_at_end(&self, expected: &str) -> Error {

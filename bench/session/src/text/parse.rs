@@ -11,10 +11,20 @@ use super::parse_standing::{standing, whole_words};
 use super::script::{EntryLine, Script, Sizes, Standing, Start};
 use crate::entry;
 
+/// How many bytes the lines of a session stand for at most: a short text can stand for many.
+const TOGETHER: usize = 4 * LIMIT;
+
 const HEAD: &str = "the first line: 'memory BYTES entries NUMBER'";
+
+/// What some editors put before a text.
+const BYTE_ORDER_MARK: char = '\u{feff}';
 
 /// Reads a session's text.
 pub fn parse(text: &str) -> Result<Script, Error> {
+    if text.starts_with(BYTE_ORDER_MARK) {
+        let found = "a byte order mark, which the editor must be told to leave out".to_string();
+        return Err(Error { line: 1, column: 1, expected: HEAD.to_string(), found });
+    }
     let lines = lines::lines(text)?;
     let (last, lines) = lines.split_last().expect("there is always a last line");
     let mut reader = Reader::default();
@@ -34,6 +44,8 @@ pub fn parse(text: &str) -> Result<Script, Error> {
 struct Reader {
     script: Option<Script>,
     names: HashSet<String>,
+    /// How many bytes the lines so far stand for.
+    bytes: usize,
 }
 
 impl Reader {
@@ -46,13 +58,25 @@ impl Reader {
             return Ok(());
         };
         let sizes = script.sizes;
-        match script.asks.last_mut() {
-            Some(ask) if cursor.take("=") => ask.standing.push(standing(&mut cursor, sizes)?),
+        let bytes = match script.asks.last_mut() {
+            Some(ask) if cursor.take("=") => {
+                let standing = standing(&mut cursor, sizes)?;
+                let bytes = standing.bytes();
+                ask.standing.push(standing);
+                bytes
+            }
             None if is_start(&cursor) => start(&mut cursor, line, script)?,
             _ => {
                 let ask = request(&mut cursor, line, script.exact, &mut self.names)?;
+                let bytes = ask.bytes();
                 script.asks.push(ask);
+                bytes
             }
+        };
+        self.bytes += bytes;
+        if self.bytes > TOGETHER {
+            let expected = format!("at most {TOGETHER} bytes in all lines together");
+            return Err(cursor.error_at(0, &expected));
         }
         cursor.end("the line's end")
     }
@@ -85,17 +109,18 @@ fn is_start(cursor: &Cursor) -> bool {
     matches!(cursor.peek(), Some("exact" | "state" | "entry" | "table" | "at"))
 }
 
-/// A line of the start.
-fn start(cursor: &mut Cursor, line: &Line, script: &mut Script) -> Result<(), Error> {
+/// A line of the start; how many bytes it stands for.
+fn start(cursor: &mut Cursor, line: &Line, script: &mut Script) -> Result<usize, Error> {
     if cursor.take("exact") {
         script.exact = true;
-        return Ok(());
+        return Ok(0);
     }
     let place = Cursor::new(line).error_at(2, &format!("{} or 'bytes'", whole_words()));
     let standing = standing(cursor, script.sizes)?;
     if let Standing::Entry { line: EntryLine::Fields(_), .. } = standing {
         return Err(place);
     }
+    let bytes = standing.bytes();
     script.start.push(Start { comments: line.comments(), standing });
-    Ok(())
+    Ok(bytes)
 }

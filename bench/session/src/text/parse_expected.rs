@@ -7,15 +7,18 @@ use super::cursor::Cursor;
 use super::error::Error;
 use super::script::{Expected, Word};
 use super::words;
+use bridge::Operation;
 
 const TWICE: &str = "each token once, by 'first', 'second' or 'as'";
 
 /// What stands behind `->`.
 pub fn expected(
     cursor: &mut Cursor,
+    operation: Option<Operation>,
     exact: bool,
     names: &mut HashSet<String>,
 ) -> Result<Expected, Error> {
+    let tokens = operation.map_or(0, |operation| operation.tokens().len());
     let mut expected = Expected { refusal: refusal(cursor)?, ..Expected::default() };
     expected.place = place(cursor);
     let mut given = HashSet::new();
@@ -24,7 +27,11 @@ pub fn expected(
             return Err(cursor.error(&format!("'{word}' once only")));
         }
         cursor.next("")?;
-        result(cursor, word, exact, names, &mut expected)?;
+        if word == "as" {
+            named(cursor, tokens, exact, names, &mut expected)?;
+        } else {
+            result(cursor, word, &mut expected)?;
+        }
     }
     Ok(expected)
 }
@@ -41,28 +48,38 @@ fn place(cursor: &mut Cursor) -> Option<u64> {
     cursor.next("").ok().map(|_| place as u64)
 }
 
-fn result(
+/// The names behind `as`, for as many tokens as the request gives.
+fn named(
     cursor: &mut Cursor,
-    word: &str,
+    tokens: usize,
     exact: bool,
     names: &mut HashSet<String>,
     expected: &mut Expected,
 ) -> Result<(), Error> {
+    if expected.refusal != 0 {
+        return Err(cursor.error_before("no name, as a refusal gives no token"));
+    }
+    if tokens == 0 {
+        return Err(cursor.error_before("no name, as this request gives no token"));
+    }
+    expected.names[0] = new_name(cursor, exact, names, &mut expected.first)?;
+    if cursor.peek().is_none_or(is_result) {
+        return Ok(());
+    }
+    if tokens < 2 {
+        return Err(cursor.error("one name, as this request gives one token"));
+    }
+    expected.names[1] = new_name(cursor, exact, names, &mut expected.second)?;
+    Ok(())
+}
+
+fn result(cursor: &mut Cursor, word: &str, expected: &mut Expected) -> Result<(), Error> {
     match word {
         "first" if expected.first.is_none() => expected.first = Some(literal(cursor)?),
         "second" if expected.second.is_none() => expected.second = Some(literal(cursor)?),
         "first" | "second" => return Err(cursor.error_before(TWICE)),
         "number" => expected.number = Some(cursor.number("drop's number")?),
         "buffer" => expected.buffer = Some(bytes::read(cursor)?),
-        "as" if expected.refusal != 0 => {
-            return Err(cursor.error_before("no name, as a refusal gives no token"))
-        }
-        "as" => {
-            expected.names[0] = new_name(cursor, exact, names, &mut expected.first)?;
-            if cursor.peek().is_some_and(|word| !is_result(word)) {
-                expected.names[1] = new_name(cursor, exact, names, &mut expected.second)?;
-            }
-        }
         _ => {
             let places = "'as', 'first', 'second', 'number' or 'buffer', or at the front \
                  'named' or 'ancestor'";

@@ -39,7 +39,8 @@ pub fn request(
         return Err(error);
     }
     if cursor.take("->") {
-        ask.expected = Some(expected(cursor, exact, names)?);
+        let operation = Operation::of(ask.words.operation);
+        ask.expected = Some(expected(cursor, operation, exact, names)?);
     } else if exact {
         return Err(cursor.error("'->' and the answer, as the session is exact"));
     }
@@ -75,7 +76,8 @@ fn transfer(cursor: &mut Cursor, ask: &mut Ask) -> Result<Option<Error>, Error> 
     match Operation::of(ask.words.operation).map(Operation::buffer) {
         Some(Buffer::Brought) => ask.buffer = bytes::read(cursor)?,
         Some(Buffer::Filled) => {
-            if cursor.peek().and_then(words::number).is_none() {
+            let is_number = |word| words::number(word).is_some() || words::is_too_wide(word);
+            if !cursor.peek().is_some_and(is_number) {
                 return Ok(Some(cursor.error("the number of bytes, or 'buffer' and the bytes")));
             }
             let length = cursor.up_to(LIMIT as u64, "the number of bytes")?;

@@ -152,6 +152,14 @@ impl Word {
 }
 
 impl Standing {
+    /// How many bytes it states.
+    pub fn bytes(&self) -> usize {
+        match self {
+            Standing::State(_) | Standing::Entry { .. } => 0,
+            Standing::Table { bytes, .. } | Standing::Memory { bytes, .. } => bytes.len(),
+        }
+    }
+
     /// Makes it stand. Places lie inside the world that the text was read for.
     pub fn put(&self, world: &mut World) {
         match self {
@@ -193,6 +201,12 @@ impl Ask {
         }
     }
 
+    /// How many bytes its line gives.
+    pub fn bytes(&self) -> usize {
+        let stated = self.expected.as_ref().and_then(|expected| expected.buffer.as_ref());
+        self.buffer.len() + stated.map_or(0, Vec::len)
+    }
+
     /// Puts a number at a place among the request's words.
     pub fn put(&mut self, place: usize, number: u64) {
         match place {
@@ -208,17 +222,13 @@ impl Ask {
         Ok(Words { token, second, ..self.words })
     }
 
-    /// Adds the names that this request's answer gives. A name whose token is stated stands for
-    /// that one, so that the session is the same whoever answers; another one for what was given.
-    pub fn add_names(&self, given: Option<&Reply>, names: &mut Names) {
+    /// Adds the names of the tokens that were given. A name whose token is stated stands for that
+    /// one, so that the session is the same whoever answers; another one for what was given.
+    pub fn add_names(&self, given: [Option<u64>; 2], names: &mut Names) {
         let Some(expected) = &self.expected else {
             return;
         };
-        let given = given.filter(|reply| reply.refusal == 0);
-        let tokens = [
-            expected.first.or(given.map(|reply| reply.first)),
-            expected.second.or(given.map(|reply| reply.second)),
-        ];
+        let tokens = [expected.first.or(given[0]), expected.second.or(given[1])];
         for (name, token) in expected.names.iter().zip(tokens) {
             if let (Some(name), Some(token)) = (name, token) {
                 names.insert(name.clone(), token);
@@ -241,7 +251,7 @@ impl Script {
         let mut steps = Vec::new();
         for ask in &self.asks {
             steps.push(Step { request: ask.resolve(&names)?, buffer: ask.buffer.clone() });
-            ask.add_names(None, &mut names);
+            ask.add_names([None, None], &mut names);
         }
         Ok(Session { world: self.world(), steps })
     }

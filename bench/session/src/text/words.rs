@@ -17,6 +17,14 @@ pub fn number(word: &str) -> Option<u64> {
     u64::from_str_radix(&plain, radix).ok().filter(|_| starts)
 }
 
+/// Whether a word is a number that has more than 64 bits.
+pub fn is_too_wide(word: &str) -> bool {
+    let (digits, radix) = word.strip_prefix("0x").map_or((word, 10), |digits| (digits, 16));
+    let starts = digits.starts_with(|first: char| first.is_digit(radix));
+    let is_number = digits.chars().all(|letter| letter.is_digit(radix) || letter == '_');
+    starts && is_number && number(word).is_none()
+}
+
 /// Short numbers in decimal, long ones in hex.
 pub fn number_text(number: u64) -> String {
     if number <= 1 << 32 {
