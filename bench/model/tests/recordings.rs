@@ -166,7 +166,7 @@ fn sessions_are_served_as_recorded() {
     let sessions = definitions["sessions"].list();
     let rows: usize =
         sessions.iter().map(|name| replay(&definitions[name.word()], &definitions)).sum();
-    assert_eq!((sessions.len(), rows), (7, 181));
+    assert_eq!((sessions.len(), rows), (6, 174));
 }
 
 #[test]

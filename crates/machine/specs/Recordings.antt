@@ -73,19 +73,16 @@ fromReset = record {
       ∷ refuses (plain (release 0x898ac00000000000)) 9 0 4 6
       ∷ grants (plain (merge 0xafb3c00000010000 0x898ac00000000000 0 3)) (0xc14a800001000000 ∷ []) 0 4 7 nothing
       ∷ refuses (over (zeros 1) (access reading 0xafb3c00000010000 0)) 2 0 4 7
-      ∷ refuses (plain (derive 0xc14a800001000000 3 21 0 0)) 8 0 4 7
-      ∷ grants (plain (derive 0xc14a800001000000 3 20 2 0)) (0x390f400200000000 ∷ []) 0 2 8 nothing
-      -- a revoke; a create of the whole
-      ∷ grants (plain (revoke 0xc14a800001000000 1)) (0x61ff800000000001 ∷ []) 0 2 9 (store 0 (zeros 24))
-      ∷ grants (over (zeros 24) (access reading 0x61ff800000000001 0)) [] 0 2 9 (load 0 24)
-      ∷ grants (plain (create 0x61ff800000000001 0 24 1 7 0)) (0x3e57400300000000 ∷ []) 0 3 10 nothing
-      ∷ refuses (over (zeros 1) (access reading 0 0)) 2 0 3 10
+      -- a revoke
+      ∷ grants (plain (revoke 0xc14a800001000000 1)) (0x7bcf000000000001 ∷ []) 0 4 8 (store 0 (zeros 24))
+      ∷ grants (over (zeros 24) (access reading 0x7bcf000000000001 0)) [] 0 4 8 (load 0 24)
+      ∷ refuses (over (zeros 1) (access reading 0 0)) 2 0 4 8
       ∷ [];
   left =
       0
+      ∷ 0x200000000000000300000000000000000000000000000000003aef3c00000007
       ∷ 0
-      ∷ 0x4000000068295000000000002000000280002000000000000010e43d00000007
-      ∷ 0x200000000000000300000000000000000000000000000000007af95d00000009
+      ∷ 0
       ∷ 0
       ∷ [];
 }
@@ -264,31 +261,26 @@ handedOn = record {
       ∷ [];
 }
 
--- new numbers: round from the table's end to 1, never 0, the last one given at the end of the round
+-- a new number: round from the table's end to 1, never 0, the last one given at the end of the round
 abbrev goingRound : Session
 goingRound = record {
   memory = 8;
-  state = known 3 4 3 9;
+  state = known 3 4 2 9;
   table =
       0
-      ∷ 0
-      ∷ 0
-      ∷ 0x200000000000000100000000000000000000000000000000003a00a300000008
+      ∷ 0x200000000000000100002000000000000000000000000000003a00a100000007
+      ∷ 0x400000000805080000000000200000008000200000000000003800a200000008
       ∷ [];
   rows =
-      grants (plain (create 0x4028c00000000003 0 8 0 7 0)) (0x1084400100000000 ∷ []) 0 1 10 nothing
-      ∷ grants (plain (derive 0x1084400100000000 0 2 7 0)) (0x3cfe800200000000 ∷ []) 0 2 11 nothing
-      ∷ grants (plain (executeOnly 0x1084400100000000 0)) (0x2732c00300000000 ∷ []) 0 3 12 nothing
-      ∷ refuses (plain (derive 0x1084400100000000 0 2 7 0)) 10 0 3 12
-      ∷ refuses (plain (executeOnly 0x1084400100000000 0)) 10 0 3 12
-      ∷ grants (plain (release 0x2732c00300000000)) [] 1 3 12 nothing
-      ∷ grants (plain (executeOnly 0x1084400100000000 0)) (0x2e2d400300000000 ∷ []) 0 3 13 nothing
+      refuses (plain (derive 0x4028400000000001 0 2 7 0)) 10 0 2 9
+      ∷ refuses (plain (executeOnly 0x4028400000000001 0)) 10 0 2 9
+      ∷ grants (plain (release 0x4028800000000002)) [] 1 2 9 nothing
+      ∷ grants (plain (derive 0x4028400000000001 0 2 7 0)) (0x1b8b800200000000 ∷ []) 0 2 10 nothing
       ∷ [];
   left =
       0
-      ∷ 0x200000000000000100004000000000000000000000000000003a421100000009
-      ∷ 0x400000000a108800000000002000000040002000000000000038f3fa0000000a
-      ∷ 0x400000000a108800000000002000000100002000000000000008b8b50000000c
+      ∷ 0x200000000000000100002000000000000000000000000000003a00a100000007
+      ∷ 0x40000000080508000000000020000000400020000000000000386e2e00000009
       ∷ [];
 }
 
@@ -326,26 +318,7 @@ lastNonces = record {
       ∷ [];
 }
 
--- a full table: no create; a revoke that passes over a nonce, with which the old tag would come back
-abbrev passedOver : Session
-passedOver = record {
-  memory = 8;
-  state = known 0 0 0 9;
-  table =
-      0x200000000000000100000000000000000000000000000000003a000000000001
-      ∷ 0x200000008000000080000000000000000000000000000000003adf0200000002
-      ∷ [];
-  rows =
-      refuses (plain (create 0 0 8 0 7 0)) 10 0 0 9
-      ∷ grants (plain (revoke 0x37c0800100000000 0)) (0x922c00100000000 ∷ []) 0 0 11 (store 4 (zeros 4))
-      ∷ [];
-  left =
-      0x200000000000000100000000000000000000000000000000003a000000000001
-      ∷ 0x200000008000000080000000000000000000000000000000003a248b0000000a
-      ∷ [];
-}
-
--- the last nonce would bring the old tag back: no nonce is left
+-- a full table: no create; the last nonce would bring the old tag back, and is passed over: no revoke
 abbrev noneLeft : Session
 noneLeft = record {
   memory = 8;
@@ -355,7 +328,8 @@ noneLeft = record {
       ∷ 0x200000008000000080000000000000000000000000000000003a67e600000002
       ∷ [];
   rows =
-      refuses (plain (revoke 0x19f9800100000000 0)) 11 0 0 4294967295
+      refuses (plain (create 0 0 8 0 7 0)) 10 0 0 4294967295
+      ∷ refuses (plain (revoke 0x19f9800100000000 0)) 11 0 0 4294967295
       ∷ [];
   left =
       0x200000000000000100000000000000000000000000000000003a000000000001
@@ -399,7 +373,7 @@ limits =
     ∷ []
 
 abbrev pub sessions : List Session
-sessions = fromReset ∷ handedOver ∷ handedOn ∷ goingRound ∷ lastNonces ∷ passedOver ∷ noneLeft ∷ []
+sessions = fromReset ∷ handedOver ∷ handedOn ∷ goingRound ∷ lastNonces ∷ noneLeft ∷ []
 
 -- bytes that are written, read and fetched through the root of 8 bytes
 abbrev root8 : List ℕ
