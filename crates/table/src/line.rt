@@ -1,4 +1,7 @@
 // The line of an entry: from link to link up to its owner.
+use crate::cut::above;
+use crate::cut::cut_at;
+use crate::cut::passes;
 use crate::entries::entry_at;
 use layout::entry::Entry;
 use layout::form::ill_formed;
@@ -45,8 +48,8 @@ pub fn linked(table: &[u8], e: Entry) -> bool
     }
 }
 
-// The end of the line of entry n, in a memory of so many bytes.
-pub fn walk(table: &[u8], memory: u64, n: usize) -> Line
+// The end of the line of entry n, in a memory of so many bytes, whatever the entries are.
+fn trace(table: &[u8], memory: u64, n: usize) -> Line
     requires { ⌜ 32 * n + 32 ≤ length (now table) ⌝ }
     ensures { λ r. ⌜ lineAs r ≡ lineOf memory (now (table .entry)) n ⌝ }
     ensures { λ r. ⌜ 32 * endOf (lineAs r) + 32 ≤ length (now (table .entry)) ⌝ }
@@ -65,5 +68,64 @@ pub fn walk(table: &[u8], memory: u64, n: usize) -> Line
         } else {
             return Line::Dead(k);
         }
+    }
+}
+
+// The same, quick where entry n is direct.
+fn ended(table: &[u8], memory: u64, n: usize) -> Line
+    requires { ⌜ 32 * n + 32 ≤ length (now table) ⌝ }
+    ensures { λ r. ⌜ lineAs r ≡ lineOf memory (now (table .entry)) n ⌝ }
+    ensures { λ r. ⌜ 32 * endOf (lineAs r) + 32 ≤ length (now (table .entry)) ⌝ }
+{
+    let e = entry_at(table, n);
+    if e.kind == 1 {
+        if ill_formed(memory, e) {
+            Line::Ill(n)
+        } else {
+            Line::Owner(n)
+        }
+    } else {
+        trace(table, memory, n)
+    }
+}
+
+// The same, quick where entry n is indirect: up the line as long as entries are well-formed and
+// linked, each read once.
+fn climb(table: &[u8], memory: u64, n: usize) -> Line
+    requires { ⌜ 32 * n + 32 ≤ length (now table) ⌝ }
+    ensures { λ r. ⌜ lineAs r ≡ lineOf memory (now (table .entry)) n ⌝ }
+    ensures { λ r. ⌜ 32 * endOf (lineAs r) + 32 ≤ length (now (table .entry)) ⌝ }
+{
+    let room = table.len() / 32 * 32;
+    let mut byte = 32 * n;
+    let mut c = cut_at(table, byte);
+    while passes(memory, room as u64, c) {
+        let up = c.up as usize;
+        let p = cut_at(table, up);
+        if above(p, c) {
+            byte = up;
+            c = p;
+        } else {
+            return ended(table, memory, byte / 32);
+        }
+    }
+    ended(table, memory, byte / 32)
+}
+
+// The end of the line of entry n, in a memory of so many bytes.
+pub fn walk(table: &[u8], memory: u64, n: usize) -> Line
+    requires { ⌜ 32 * n + 32 ≤ length (now table) ⌝ }
+    ensures { λ r. ⌜ lineAs r ≡ lineOf memory (now (table .entry)) n ⌝ }
+    ensures { λ r. ⌜ 32 * endOf (lineAs r) + 32 ≤ length (now (table .entry)) ⌝ }
+{
+    let e = entry_at(table, n);
+    if e.kind == 1 {
+        if ill_formed(memory, e) {
+            Line::Ill(n)
+        } else {
+            Line::Owner(n)
+        }
+    } else {
+        climb(table, memory, n)
     }
 }
