@@ -89,12 +89,12 @@ fn ended(table: &[u8], memory: u64, n: usize) -> Line
     }
 }
 
-// The same, quick where entry n is indirect: up the line as long as entries are well-formed and
-// linked, each read once.
-fn climb(table: &[u8], memory: u64, n: usize) -> Line
+// How far the line of entry n goes up by entries that are well-formed and linked, each read once:
+// the number of the first that is not passed, whose line ends where that of entry n does.
+fn climb(table: &[u8], memory: u64, n: usize) -> usize
     requires { ⌜ 32 * n + 32 ≤ length (now table) ⌝ }
-    ensures { λ r. ⌜ lineAs r ≡ lineOf memory (now (table .entry)) n ⌝ }
-    ensures { λ r. ⌜ 32 * endOf (lineAs r) + 32 ≤ length (now (table .entry)) ⌝ }
+    ensures { λ r. ⌜ lineOf memory (now (table .entry)) r ≡ lineOf memory (now (table .entry)) n ⌝ }
+    ensures { λ r. ⌜ 32 * r + 32 ≤ length (now (table .entry)) ⌝ }
 {
     let room = table.len() / 32 * 32;
     let mut byte = 32 * n;
@@ -102,14 +102,13 @@ fn climb(table: &[u8], memory: u64, n: usize) -> Line
     while passes(memory, room as u64, c) {
         let up = c.up as usize;
         let p = cut_at(table, up);
-        if above(p, c) {
-            byte = up;
-            c = p;
-        } else {
-            return ended(table, memory, byte / 32);
+        if !above(p, c) {
+            return byte / 32;
         }
+        byte = up;
+        c = p;
     }
-    ended(table, memory, byte / 32)
+    byte / 32
 }
 
 // The end of the line of entry n, in a memory of so many bytes.
@@ -118,14 +117,5 @@ pub fn walk(table: &[u8], memory: u64, n: usize) -> Line
     ensures { λ r. ⌜ lineAs r ≡ lineOf memory (now (table .entry)) n ⌝ }
     ensures { λ r. ⌜ 32 * endOf (lineAs r) + 32 ≤ length (now (table .entry)) ⌝ }
 {
-    let e = entry_at(table, n);
-    if e.kind == 1 {
-        if ill_formed(memory, e) {
-            Line::Ill(n)
-        } else {
-            Line::Owner(n)
-        }
-    } else {
-        climb(table, memory, n)
-    }
+    ended(table, memory, climb(table, memory, n))
 }

@@ -1,10 +1,11 @@
 -- `table::line::climb` meets its contract. The loop's invariant: the line of the entry at the byte, whose parts are read, ends where that of entry n
 -- does. The nonce falls at each link.
 -- Assumes nothing.
-use mathlib.Core.Path.{sym, _∙_}
+use mathlib.Core.Path.{sym}
 use Prim.Native.Nat.{_/_}
 use native.Mathlib.Omega.{arith}
 use borrow.Author.Needs.{needs}
+use borrow.Author.Tests.{not-false}
 use Rattle.machine.specs.Parts.{at}
 use Rattle.table.proofs.CutLaws.{climb-in, climb-less, climb-number, climb-start, climb-up, Climbing, whole-at}
 use Rattle.table.proofs.line.climb.Statement.{statement}
@@ -29,13 +30,11 @@ climb-spec =
     (λ c κs. search needs)
     (λ c κs. climb-in _ _ _ _ _ _ (c .before .before .loop .inv) _ (c .before .passes .ensures) (c .if1 .taken))
     (λ c κs. search needs)
+    (λ c. let l = c .before .before .before .before .before in (sym (l .loop .inv .same), climb-number _ _ _ _ _ _ (l .loop .inv)))
     (λ c.
     let p = c .before .before .before .before in
-    climb-less _ _ _ _ _ _ (p .before .loop .inv) _ (p .passes .ensures) (c .before .before .before .if1 .taken) _ (c .before .before .cut-at2 .ensures) _ (c .before .above .ensures) (c .if2 .taken))
+    climb-less _ _ _ _ _ _ (p .before .loop .inv) _ (p .passes .ensures) (c .before .before .before .if1 .taken) _ (c .before .before .cut-at2 .ensures) _ (c .before .above .ensures) (not-false _ (c .if2 .left)))
     (λ c.
     let p = c .before .before .before .before in
-    climb-up _ _ _ _ _ _ (p .before .loop .inv) _ (p .passes .ensures) (c .before .before .before .if1 .taken) _ (c .before .before .cut-at2 .ensures) _ (c .before .above .ensures) (c .if2 .taken))
-    (λ c κs. search (needs, climb-number))
-    (λ c. (c .ended .ensures .0 ∙ sym (c .before .before .before .before .before .before .loop .inv .same), c .ended .ensures .1))
-    (λ c κs. search (needs, climb-number))
-    (λ c. (c .ended2 .ensures .0 ∙ sym (c .before .before .before .loop .inv .same), c .ended2 .ensures .1)))
+    climb-up _ _ _ _ _ _ (p .before .loop .inv) _ (p .passes .ensures) (c .before .before .before .if1 .taken) _ (c .before .before .cut-at2 .ensures) _ (c .before .above .ensures) (not-false _ (c .if2 .left)))
+    (λ c. let l = c .before .before in (sym (l .loop .inv .same), climb-number _ _ _ _ _ _ (l .loop .inv))))

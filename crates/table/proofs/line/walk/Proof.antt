@@ -1,7 +1,7 @@
--- `table::line::walk` meets its contract: a direct entry is its own owner.
+-- `table::line::walk` meets its contract: the line that is left ends where the whole does.
 -- Assumes nothing.
+use mathlib.Core.Path.{_∙_}
 use borrow.Author.Needs.{needs}
-use Rattle.table.proofs.LineLaws.{own-ill, own-owner}
 use Rattle.table.proofs.line.walk.Statement.{statement}
 use Rattle.table.proofs.line.walk.Tie as tie
 
@@ -11,7 +11,4 @@ walk-spec =
     (tie.spec
     (λ c κs. search needs)
     (λ c κs. search needs)
-    (λ c κs. search needs)
-    (λ c. (search (needs, own-ill), search needs))
-    (λ c. (search (needs, own-owner), search needs))
-    (λ c. search needs))
+    (λ c. (c .ended .ensures .0 ∙ c .before .climb .ensures .0, c .ended .ensures .1)))
