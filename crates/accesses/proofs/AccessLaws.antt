@@ -1,13 +1,14 @@
 -- Access: its checks, and what it leaves.
 -- Assumes nothing.
 use mathlib.Core.Path.{_≡_, refl, _∙_}
-use mathlib.Core.Bool.{true, false, _&&_, cond}
+use mathlib.Core.Bool.{Bool, true, false, _&&_, cond}
 use mathlib.Core.List.{List, _∷_}
-use Prim.Native.Nat.{ℕ, _+_, _^_, _≤_}
-use lib.Dec.{leb, ltb}
+use Prim.Native.Nat.{ℕ, zero, suc, _+_, _/_, _%_, _^_, _≤_, _<_}
+use native.Mathlib.Omega.{arith}
+use lib.Dec.{eqb, leb, ltb}
 use lib.ListN.{length}
-use borrow.Author.Tests.{leb-true}
-use Rattle.tokens.specs.Permissions.{within}
+use borrow.Author.Tests.{le-leb, leb-true}
+use Rattle.tokens.specs.Permissions.{has, within}
 use Rattle.tokens.specs.Token.{named}
 use Rattle.layout.specs.declared.entry.Entry.{Entry}
 use Rattle.tokens.specs.declared.token.Named.{Named}
@@ -15,7 +16,7 @@ use Rattle.checks.specs.Holds.{requestHolds, settingsHold}
 use Rattle.checks.specs.Reached.{reachVerdict}
 use Rattle.machine.specs.Operations.{transfer}
 use Rattle.machine.specs.Parts.{at, State}
-use Rattle.machine.specs.Requests.{access, rightOf, Way}
+use Rattle.machine.specs.Requests.{access, fetching, reading, rightOf, Way, writing}
 use Rattle.machine.specs.Steps.{pass, stop, Verdict, verdict}
 use Rattle.machine.specs.Stops.{atBounds, atRight, checks, places, taskFits, transferFits}
 use Rattle.machine.proofs.Decided.{Passed}
@@ -29,6 +30,23 @@ use Rattle.rulings.proofs.RulingLaws.{decided-pass, effect-pass, passed-on, res
 use Rattle.accesses.specs.Ways.{loadAs, Loads, startOf}
 use Rattle.accesses.specs.declared.access.Loading.{Loading}
 use Rattle.accesses.specs.declared.access.Loading.the-variants as loading
+
+-- ---- the right, as one bit
+
+and-true : (b : Bool) → (b && true) ≡ b
+and-true true = refl
+and-true false = refl
+
+bit-held : (x : ℕ) → x < 2 → eqb x 1 ≡ leb 1 x
+bit-held zero h = refl
+bit-held (suc zero) h = refl
+bit-held (suc (suc x)) h = absurd (omega arith)
+
+pub right-held : (w : Way) (p : ℕ) → eqb (has p (rightOf w)) 1 ≡ within (rightOf w) p
+unfolding within
+right-held reading p = rw (bit-held (p / 4 % 2) (omega arith), le-leb 0 (p / 2 % 2) (omega arith), le-leb 0 (p / 1 % 2) (omega arith), and-true, and-true)
+right-held writing p = rw (bit-held (p / 2 % 2) (omega arith), le-leb 0 (p / 4 % 2) (omega arith), le-leb 0 (p / 1 % 2) (omega arith), and-true)
+right-held fetching p = rw (bit-held (p / 1 % 2) (omega arith), le-leb 0 (p / 4 % 2) (omega arith), le-leb 0 (p / 2 % 2) (omega arith))
 
 module _ (m : ℕ) (s : State) (t : List ℕ) (w : Way) (k u : ℕ) (b : List ℕ) where
   -- ---- the right and the bounds, with the token read as n, its entry as e, and so many bytes

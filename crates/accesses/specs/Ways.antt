@@ -1,16 +1,19 @@
 -- The ways of access, and what its checks come to.
 -- Assumes nothing.
 use mathlib.Core.Path.{_≡_}
+use mathlib.Core.Bool.{true}
 use mathlib.Core.List.{List}
 use Prim.Native.Nat.{ℕ, _+_}
 use lib.ListN.{length}
 use Rattle.tokens.specs.Token.{named}
+use Rattle.checks.specs.Holds.{requestHolds}
 use Rattle.checks.specs.Refusals.{stopAs}
 use Rattle.machine.specs.Operations.{load, namedEntry, transfer}
 use Rattle.machine.specs.Parts.{State}
 use Rattle.machine.specs.Requests as request
 use Rattle.machine.specs.Steps.{pass, Verdict, verdict}
 use Rattle.machine.specs.Stops.{places}
+use Rattle.rulings.specs.Rulings.{verdictOn}
 use Rattle.accesses.specs.declared.access.Loading.{Loading}
 use Rattle.accesses.specs.declared.access.Loading.the-variants as loading
 use Rattle.accesses.specs.declared.access.Transfer.{Transfer}
@@ -40,6 +43,11 @@ Begins (From x) v a = (v ≡ pass) × (x ≡ a)
 -- what the right and the bounds come to, for a buffer of so many bytes, whatever else the request carries
 abbrev pub Transfers : Transfer → List ℕ → request.Way → (token bytes : ℕ) → Type 0
 Transfers r t w k n = (m u : ℕ) (s : State) (b : List ℕ) → length b ≡ n → Begins r (verdict (places m s t (request.access w k u) b .rest)) (startOf t k)
+
+-- what all places but 1 come to, for a buffer of so many bytes, in every state
+abbrev pub Carries : Transfer → ℕ → List ℕ → request.Way → (token task bytes : ℕ) → Type 0
+Carries r m t w k u n =
+    (s : State) (b : List ℕ) → length b ≡ n → requestHolds m s t (request.access w k u) b ≡ true → Begins r (verdictOn m s t (request.access w k u) b) (startOf t k)
 
 -- the way takes bytes from memory
 abbrev pub Loads : request.Way → Type 0

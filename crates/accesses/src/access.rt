@@ -1,6 +1,7 @@
 // Access: read, write and fetch, through a token, at its offset.
 use bits::slice::copy;
 use checks::reach::Reached;
+use checks::reach::near;
 use checks::reach::reach;
 use checks::refusal::Refusal;
 use checks::settings::settings;
@@ -9,21 +10,24 @@ use rulings::reply::plain;
 use rulings::reply::refused;
 use table::entries::entry_at;
 use table::state::StateWords;
-use tokens::permissions::within;
+use tokens::token::Named;
 use tokens::token::read;
 ghost use mathlib.Core.Path.{_≡_};
 ghost use Prim.Native.Nat.{_+_, _*_, _≤_};
-ghost use lib.Dec.{leb};
+ghost use lib.Dec.{eqb, leb};
 ghost use lib.ListN.{drop, length, take};
 ghost use lib.Seq.{sets};
+ghost use Rattle.tokens.specs.Permissions.{has};
+ghost use Rattle.tokens.specs.Token as tokens;
 ghost use Rattle.checks.specs.Holds.{settingsHold};
-ghost use Rattle.machine.specs.Operations.{numberOf};
+ghost use Rattle.checks.specs.Reached.{Near};
+ghost use Rattle.machine.specs.Operations.{numberOf, transfer};
 ghost use Rattle.machine.specs.Parts.{State};
 ghost use Rattle.machine.specs.Requests as request;
 ghost use Rattle.machine.specs.Steps.{bufferAfter, memoryAfter};
 ghost use Rattle.table.specs.States.{stateAs};
 ghost use Rattle.rulings.specs.Rulings.{effectOn, handed, rulingOn, verdictOn};
-ghost use Rattle.accesses.specs.Ways.{Begins, loadAs, startOf, Transfers, wayAs};
+ghost use Rattle.accesses.specs.Ways.{Begins, Carries, loadAs, startOf, Transfers, wayAs};
 
 pub enum Way {
     Read,
@@ -53,14 +57,14 @@ pub enum Transfer {
     From(u64),
 }
 
-// The permission that an access needs.
-fn right_of(way: Way) -> u8
-    ensures { λ r. ⌜ r ≡ request.rightOf (wayAs way) ⌝ }
+// The permissions have the one that an access needs.
+fn holds(way: Way, permissions: u8) -> bool
+    ensures { λ r. ⌜ r ≡ eqb (has permissions (request.rightOf (wayAs way))) 1 ⌝ }
 {
     match way {
-        Way::Read => 4,
-        Way::Write => 2,
-        Way::Fetch => 1,
+        Way::Read => permissions / 4 % 2 == 1,
+        Way::Write => permissions / 2 % 2 == 1,
+        Way::Fetch => permissions / 1 % 2 == 1,
     }
 }
 
@@ -78,20 +82,62 @@ fn inside(offset: u64, bytes: u64, length: u64) -> bool
     }
 }
 
-// Places 7 and 8: the right, and the bounds.
-fn check_transfer(table: &[u8], way: Way, token: u64, bytes: u64) -> Transfer
+// Places 7 and 8: the right, and the bounds. The token is read as named.
+fn check_transfer(table: &[u8], way: Way, token: u64, named: Named, bytes: u64) -> Transfer
+    requires { ⌜ named ≡ tokens.named token ⌝ }
     requires { ⌜ 32 * numberOf token + 32 ≤ length (now table) ⌝ }
     ensures { λ r. ⌜ Transfers r (now (table .entry)) (wayAs way) token bytes ⌝ }
 {
-    let named = read(token);
     let e = entry_at(table, named.number as usize);
-    if !within(right_of(way), e.permissions) {
+    if !holds(way, e.permissions) {
         return Transfer::Stop(Refusal::Right);
     }
     if inside(named.offset, bytes, e.length as u64) {
         Transfer::From((e.base as u64) + named.offset)
     } else {
         Transfer::Stop(Refusal::Bounds)
+    }
+}
+
+// All places but 1, for so many bytes.
+fn check_far(
+    table: &[u8],
+    memory: u64,
+    way: Way,
+    token: u64,
+    named: Named,
+    task: u64,
+    bytes: u64,
+) -> Transfer
+    requires { ⌜ named ≡ tokens.named token ⌝ }
+    ensures { λ r. ⌜ Carries r memory (now (table .entry)) (wayAs way) token task bytes ⌝ }
+{
+    let r = reach(table, memory, token, task);
+    match r {
+        Reached::Stop(why) => Transfer::Stop(why),
+        Reached::Owner(_) => check_transfer(table, way, token, named, bytes),
+    }
+}
+
+// The same where the token names a direct, well-formed entry.
+fn check_near(
+    table: &[u8],
+    memory: u64,
+    way: Way,
+    token: u64,
+    named: Named,
+    task: u64,
+    bytes: u64,
+) -> Transfer
+    requires { ⌜ named ≡ tokens.named token ⌝ }
+    requires { ⌜ Near memory (now table) named ⌝ }
+    ensures { λ r. ⌜ Carries r memory (now (table .entry)) (wayAs way) token task bytes ⌝ }
+{
+    let e = entry_at(table, named.number as usize);
+    if e.locked & (e.holder != task) {
+        Transfer::Stop(Refusal::Lock)
+    } else {
+        check_transfer(table, way, token, named, bytes)
     }
 }
 
@@ -109,10 +155,11 @@ fn check_access(
 {
     let bytes = buffer.len();
     if set & (task < 1 << 55) & (1 <= bytes) & (bytes <= 4096) {
-        let r = reach(table, memory, token, task);
-        match r {
-            Reached::Stop(why) => Transfer::Stop(why),
-            Reached::Owner(_) => check_transfer(table, way, token, bytes as u64),
+        let named = read(token);
+        if near(table, memory, named) {
+            check_near(table, memory, way, token, named, task, bytes as u64)
+        } else {
+            check_far(table, memory, way, token, named, task, bytes as u64)
         }
     } else {
         Transfer::Stop(Refusal::Request)
@@ -181,6 +228,46 @@ pub fn write(
         Transfer::Stop(why) => refused(s, why),
         Transfer::From(start) => {
             store(memory, start as usize, buffer);
+            plain(s, 0)
+        }
+    }
+}
+
+// The bytes go the way of the access.
+fn carry(way: Way, memory: &mut [u8], start: usize, buffer: &mut [u8])
+    requires { ⌜ (start + length (now buffer) ≤ length (now memory)) × (length (now buffer) ≤ 4096) ⌝ }
+    ensures { λ _. ⌜ now (memory .exit) ≡ memoryAfter (transfer (wayAs way) start (now (buffer .entry))) (now (memory .entry)) ⌝ }
+    ensures { λ _. ⌜ now (buffer .exit) ≡ bufferAfter (transfer (wayAs way) start (now (buffer .entry))) (now (memory .entry)) (now (buffer .entry)) ⌝ }
+{
+    match way {
+        Way::Read => load(memory, start, buffer),
+        Way::Write => store(memory, start, buffer),
+        Way::Fetch => load(memory, start, buffer),
+    }
+}
+
+// An access by any way: what `fill` and `write` do, as one function, which is called in one place and
+// so becomes part of its caller.
+pub fn access(
+    mut s: StateWords,
+    way: Way,
+    table: &[u8],
+    memory: &mut [u8],
+    buffer: &mut [u8],
+    token: u64,
+    task: u64,
+) -> Outcome
+    ensures { λ r. ⌜ handed r (now (table .entry)) ≡ rulingOn (length (now (memory .entry))) (stateAs s) (now (table .entry)) (request.access (wayAs way) token task) (now (buffer .entry)) ⌝ }
+    ensures { λ _. ⌜ now (memory .exit) ≡ memoryAfter (effectOn (length (now (memory .entry))) (stateAs s) (now (table .entry)) (request.access (wayAs way) token task) (now (buffer .entry))) (now (memory .entry)) ⌝ }
+    ensures { λ _. ⌜ now (buffer .exit) ≡ bufferAfter (effectOn (length (now (memory .entry))) (stateAs s) (now (table .entry)) (request.access (wayAs way) token task) (now (buffer .entry))) (now (memory .entry)) (now (buffer .entry)) ⌝ }
+{
+    let bytes = memory.len() as u64;
+    let set = settings(bytes, s, table);
+    let r = check_access(set, table, bytes, way, token, task, buffer);
+    match r {
+        Transfer::Stop(why) => refused(s, why),
+        Transfer::From(start) => {
+            carry(way, memory, start as usize, buffer);
             plain(s, 0)
         }
     }

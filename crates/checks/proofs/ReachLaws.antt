@@ -7,7 +7,7 @@ use Prim.Native.Nat.{ℕ, _+_, _*_, _/_, _≤_, _<_}
 use native.Mathlib.Omega.{arith}
 use lib.Dec.{eqb, ltb}
 use lib.ListN.{length}
-use borrow.Author.Tests.{eqb-false, le-ltb, lt-ltb, ltb-true, not-true}
+use borrow.Author.Tests.{eq-eqb, eqb-false, le-ltb, lt-ltb, ltb-true, ne-eqb, not-true}
 use Rattle.tokens.specs.Token.{named}
 use Rattle.layout.specs.declared.entry.Entry.{Entry}
 use Rattle.tokens.specs.declared.token.Named.{Named}
@@ -20,9 +20,11 @@ use Rattle.machine.specs.Stops.{atEntry, atForm, atLine, atLock, entryNamed, fo
 use Rattle.machine.proofs.Basics.{range}
 use Rattle.machine.proofs.Decided.{passed}
 use Rattle.machine.proofs.Fuel.{line-formed}
+use Rattle.table.proofs.LineLaws.{own-owner}
 use Rattle.checks.specs.Holds.{namedHolds}
-use Rattle.checks.specs.Reached.{formedVerdict, liveVerdict, Reaches, reachVerdict}
+use Rattle.checks.specs.Reached.{formedVerdict, liveVerdict, Near, Reaches, reachVerdict}
 use Rattle.checks.specs.declared.reach.Reached.{Reached}
+use Rattle.checks.specs.declared.reach.Reached.the-variants as reached
 use Rattle.checks.proofs.VerdictLaws.{all-pass, all-stop, first-passes, first-stops, parts-pass}
 
 -- the number that a verdict tells, 0 for a pass
@@ -159,3 +161,18 @@ reached-inside m t n full formed =
 -- what a token came to is known of a verdict that is the same
 pub reaches-as : (t : List ℕ) (r : Reached) (l : Line) (v w : Verdict) → w ≡ v → Reaches t r v l → Reaches t r w l
 reaches-as t r l v w e h = subst (λ (x : Verdict). Reaches t r x l) (sym e) h
+
+-- ---- a direct, well-formed entry is its own owner
+
+module _ (m : ℕ) (t : List ℕ) (k : ℕ) (n : Named) (is : n ≡ named k) (h : Near m t n) where
+  near-named : namedHolds t k ≡ true
+  near-named =
+      let one = h .direct in
+      sym (entry-in t k n is (at t (n .number)) refl (h .inside))
+      ∙ rw (ne-eqb (at t (n .number) .kind) 0 (λ q. absurd (omega (arith, one, q))), eq-eqb (at t (n .number) .tag) (n .tag) (h .tagged))
+
+  near-line : lineOf m t (numberOf k) ≡ owner (n .number)
+  near-line = ap (λ (x : Named). lineOf m t (x .number)) (sym is) ∙ sym (own-owner m t (n .number) (at t (n .number)) false refl (sym (h .formed)) refl (h .direct))
+
+  pub near-reaches : Reaches t (reached.Owner (n .number)) (liveVerdict m t k) (lineOf m t (numberOf k))
+  near-reaches = let i = h .inside in (live-owner m t k near-named (n .number) near-line, (near-line, omega arith))

@@ -1,11 +1,14 @@
 -- What the checks of a token come to.
 -- Assumes nothing.
 use mathlib.Core.Path.{_≡_}
-use mathlib.Core.Bool.{Bool}
+use mathlib.Core.Bool.{Bool, false}
 use mathlib.Core.List.{List}
-use Prim.Native.Nat.{ℕ, _+_, _*_, _≤_}
+use Prim.Native.Nat.{ℕ, _+_, _*_, _/_, _≤_, _<_}
 use lib.ListN.{length}
+use Rattle.tokens.specs.declared.token.Named.{Named}
+use Rattle.layout.specs.Form.{illFormed}
 use Rattle.machine.specs.Line.{Line, owner}
+use Rattle.machine.specs.Parts.{at}
 use Rattle.machine.specs.Steps.{pass, Verdict, verdict}
 use Rattle.machine.specs.Stops.{formed, live, reachable}
 use Rattle.checks.specs.Refusals.{stopAs}
@@ -33,3 +36,10 @@ Reaches t (reached.Owner o) v l = (v ≡ pass) × ((l ≡ owner o) × (32 * o + 
 abbrev pub Forms : Formed → Verdict → Bool → Type 0
 Forms (held.Stop why) v b = v ≡ stopAs why
 Forms (held.Locked l) v b = (v ≡ pass) × (l ≡ b)
+
+-- a token that is read as n names a direct, well-formed entry
+pub record Near (m : ℕ) (t : List ℕ) (n : Named) : Type 0 where
+  pub inside : n .number < length t / 32
+  pub direct : at t (n .number) .kind ≡ 1
+  pub tagged : at t (n .number) .tag ≡ n .tag
+  pub formed : illFormed m (at t (n .number)) ≡ false

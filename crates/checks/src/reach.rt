@@ -2,18 +2,20 @@
 use crate::refusal::Bad;
 use crate::refusal::Refusal;
 use crate::refusal::told;
+use layout::form::ill_formed;
 use table::entries::entry_at;
 use table::line::Line;
 use table::line::walk;
 use tokens::token::Named;
 use tokens::token::read;
 ghost use mathlib.Core.Path.{_≡_};
-ghost use mathlib.Core.Bool.{cond};
+ghost use mathlib.Core.Bool.{cond, true};
 ghost use lib.Dec.{eqb};
 ghost use Rattle.machine.specs.Line as line;
 ghost use Rattle.machine.specs.Operations.{numberOf};
+ghost use Rattle.tokens.specs.Token as token;
 ghost use Rattle.checks.specs.Holds.{Names};
-ghost use Rattle.checks.specs.Reached.{formedVerdict, Forms, liveVerdict, Reaches, reachVerdict};
+ghost use Rattle.checks.specs.Reached.{formedVerdict, Forms, liveVerdict, Near, Reaches, reachVerdict};
 ghost use Rattle.checks.specs.Refusals.{badAs};
 
 // What the checks of a token come to: where it stops, or the owner of its line.
@@ -64,11 +66,44 @@ pub fn reach_live(table: &[u8], memory: u64, k: u64) -> Reached
     }
 }
 
-// Places 2 and 3. A dead line, which is refusal 4, passes and counts as unlocked.
-pub fn reach_formed(table: &[u8], memory: u64, k: u64) -> Formed
-    ensures { λ r. ⌜ Forms r (formedVerdict memory (now (table .entry)) k) (line.isLocked (now (table .entry)) (line.lineOf memory (now (table .entry)) (numberOf k))) ⌝ }
+// A quick yes: a token that is read as n names a direct, well-formed entry, which is its own owner.
+pub fn near(table: &[u8], memory: u64, n: Named) -> bool
+    ensures { λ r. ⌜ (r ≡ true → Near memory (now (table .entry)) n) ⌝ }
 {
-    let r = reach_live(table, memory, k);
+    if n.number < (table.len() / 32) as u64 {
+        let e = entry_at(table, n.number as usize);
+        if e.kind == 1 {
+            if (e.tag as u64) == n.tag {
+                !ill_formed(memory, e)
+            } else {
+                false
+            }
+        } else {
+            false
+        }
+    } else {
+        false
+    }
+}
+
+// Places 2 to 4 for the token k, which is read as n, quick where it names a direct entry.
+pub fn reach_near(table: &[u8], memory: u64, k: u64, n: Named) -> Reached
+    requires { ⌜ n ≡ token.named k ⌝ }
+    ensures { λ r. ⌜ Reaches (now (table .entry)) r (liveVerdict memory (now (table .entry)) k) (line.lineOf memory (now (table .entry)) (numberOf k)) ⌝ }
+{
+    if near(table, memory, n) {
+        Reached::Owner(n.number as usize)
+    } else {
+        reach_live(table, memory, k)
+    }
+}
+
+// Places 2 and 3 of the token k, which has come to r at places 2 to 4. A dead line, which is
+// refusal 4, passes and counts as unlocked.
+pub fn forms(table: &[u8], memory: u64, k: u64, r: Reached) -> Formed
+    requires { ⌜ Reaches (now table) r (liveVerdict memory (now table) k) (line.lineOf memory (now table) (numberOf k)) ⌝ }
+    ensures { λ f. ⌜ Forms f (formedVerdict memory (now (table .entry)) k) (line.isLocked (now (table .entry)) (line.lineOf memory (now (table .entry)) (numberOf k))) ⌝ }
+{
     match r {
         Reached::Stop(why) => {
             let words = told(why);
@@ -85,11 +120,11 @@ pub fn reach_formed(table: &[u8], memory: u64, k: u64) -> Formed
     }
 }
 
-// Places 2 to 5.
-pub fn reach(table: &[u8], memory: u64, k: u64, task: u64) -> Reached
-    ensures { λ r. ⌜ Reaches (now (table .entry)) r (reachVerdict memory (now (table .entry)) k task) (line.lineOf memory (now (table .entry)) (numberOf k)) ⌝ }
+// Place 5 of the token k, which has come to r at places 2 to 4.
+pub fn opens(table: &[u8], memory: u64, k: u64, task: u64, r: Reached) -> Reached
+    requires { ⌜ Reaches (now table) r (liveVerdict memory (now table) k) (line.lineOf memory (now table) (numberOf k)) ⌝ }
+    ensures { λ o. ⌜ Reaches (now (table .entry)) o (reachVerdict memory (now (table .entry)) k task) (line.lineOf memory (now (table .entry)) (numberOf k)) ⌝ }
 {
-    let r = reach_live(table, memory, k);
     match r {
         Reached::Stop(why) => Reached::Stop(why),
         Reached::Owner(o) => {
@@ -101,4 +136,11 @@ pub fn reach(table: &[u8], memory: u64, k: u64, task: u64) -> Reached
             }
         }
     }
+}
+
+// Places 2 to 5.
+pub fn reach(table: &[u8], memory: u64, k: u64, task: u64) -> Reached
+    ensures { λ r. ⌜ Reaches (now (table .entry)) r (reachVerdict memory (now (table .entry)) k task) (line.lineOf memory (now (table .entry)) (numberOf k)) ⌝ }
+{
+    opens(table, memory, k, task, reach_live(table, memory, k))
 }

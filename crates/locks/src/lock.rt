@@ -1,6 +1,7 @@
 // Lock sets the lock of the line's owner, and unlock clears it.
 use checks::reach::Reached;
-use checks::reach::reach;
+use checks::reach::opens;
+use checks::reach::reach_near;
 use checks::refusal::Refusal;
 use checks::settings::settings;
 use rulings::reply::Outcome;
@@ -10,35 +11,46 @@ use table::entries::entry_at;
 use table::entries::words_at;
 use table::state::StateWords;
 use table::writes::relock;
+use tokens::token::Named;
 use tokens::token::read;
 ghost use mathlib.Core.Path.{_≡_};
 ghost use mathlib.Core.List.{[]};
-ghost use Prim.Native.Nat.{_+_, _*_, _^_, _≤_, _<_};
+ghost use Prim.Native.Nat.{ℕ, _+_, _*_, _^_, _≤_, _<_};
 ghost use lib.ListN.{length};
+ghost use Rattle.checks.specs.Holds.{requestHolds};
 ghost use Rattle.checks.specs.Reached.{Reaches};
 ghost use Rattle.machine.specs.Line.{lineOf};
 ghost use Rattle.machine.specs.Operations.{numberOf};
 ghost use Rattle.machine.specs.Requests as request;
 ghost use Rattle.table.specs.States.{stateAs};
-ghost use Rattle.rulings.specs.Rulings.{firstOn, handed, rulingOn, verdictOn};
+ghost use Rattle.tokens.specs.Token as tokens;
+ghost use Rattle.rulings.specs.Rulings.{handed, rulingOn, verdictOn};
 ghost use Rattle.locks.specs.Locks.{relocking};
 
-// Places 1 to 5, which lock and unlock share, and the owner of the token's line.
-fn reach_lock(s: StateWords, table: &[u8], memory: u64, token: u64, task: u64) -> Reached
-    ensures { λ r. ⌜ Reaches (now (table .entry)) r (firstOn memory (stateAs s) (now (table .entry)) (request.lock token task) []) (lineOf memory (now (table .entry)) (numberOf token)) ⌝ }
+// Place 1, which lock and unlock share, for a token that is read as named.
+fn asked(s: StateWords, table: &[u8], memory: u64, named: Named, task: u64) -> bool
+    ensures { λ r. ⌜ ((k : ℕ) → named ≡ tokens.named k → r ≡ requestHolds memory (stateAs s) (now (table .entry)) (request.lock k task) []) ⌝ }
 {
-    let named = read(token);
-    if settings(memory, s, table) & (task < 1 << 55) & (task != 0) & (named.offset == 0) {
-        reach(table, memory, token, task)
-    } else {
-        Reached::Stop(Refusal::Request)
-    }
+    settings(memory, s, table) & (task < 1 << 55) & (task != 0) & (named.offset == 0)
 }
 
-fn check_lock(s: StateWords, table: &[u8], memory: u64, token: u64, task: u64) -> Reached
+// Places 1 to 7, and the owner of the token's line. The token is read as named.
+fn check_lock(
+    s: StateWords,
+    table: &[u8],
+    memory: u64,
+    token: u64,
+    named: Named,
+    task: u64,
+) -> Reached
+    requires { ⌜ named ≡ tokens.named token ⌝ }
     ensures { λ r. ⌜ Reaches (now (table .entry)) r (verdictOn memory (stateAs s) (now (table .entry)) (request.lock token task) []) (lineOf memory (now (table .entry)) (numberOf token)) ⌝ }
 {
-    let r = reach_lock(s, table, memory, token, task);
+    if !asked(s, table, memory, named, task) {
+        return Reached::Stop(Refusal::Request);
+    }
+    let near = reach_near(table, memory, token, named);
+    let r = opens(table, memory, token, task, near);
     match r {
         Reached::Stop(why) => Reached::Stop(why),
         Reached::Owner(o) => {
@@ -52,10 +64,23 @@ fn check_lock(s: StateWords, table: &[u8], memory: u64, token: u64, task: u64) -
     }
 }
 
-fn check_unlock(s: StateWords, table: &[u8], memory: u64, token: u64, task: u64) -> Reached
+// The same with place 9 for 7.
+fn check_unlock(
+    s: StateWords,
+    table: &[u8],
+    memory: u64,
+    token: u64,
+    named: Named,
+    task: u64,
+) -> Reached
+    requires { ⌜ named ≡ tokens.named token ⌝ }
     ensures { λ r. ⌜ Reaches (now (table .entry)) r (verdictOn memory (stateAs s) (now (table .entry)) (request.unlock token task) []) (lineOf memory (now (table .entry)) (numberOf token)) ⌝ }
 {
-    let r = reach_lock(s, table, memory, token, task);
+    if !asked(s, table, memory, named, task) {
+        return Reached::Stop(Refusal::Request);
+    }
+    let near = reach_near(table, memory, token, named);
+    let r = opens(table, memory, token, task, near);
     match r {
         Reached::Stop(why) => Reached::Stop(why),
         Reached::Owner(o) => {
@@ -82,7 +107,7 @@ fn relock_at(mut s: StateWords, table: &mut [u8], n: usize, locked: bool, holder
 pub fn lock(mut s: StateWords, table: &mut [u8], memory: &[u8], token: u64, task: u64) -> Outcome
     ensures { λ r. ⌜ handed r (now (table .exit)) ≡ rulingOn (length (now (memory .entry))) (stateAs s) (now (table .entry)) (request.lock token task) [] ⌝ }
 {
-    let r = check_lock(s, table, memory.len() as u64, token, task);
+    let r = check_lock(s, table, memory.len() as u64, token, read(token), task);
     match r {
         Reached::Stop(why) => refused(s, why),
         Reached::Owner(o) => relock_at(s, table, o, true, task),
@@ -93,7 +118,7 @@ pub fn lock(mut s: StateWords, table: &mut [u8], memory: &[u8], token: u64, task
 pub fn unlock(mut s: StateWords, table: &mut [u8], memory: &[u8], token: u64, task: u64) -> Outcome
     ensures { λ r. ⌜ handed r (now (table .exit)) ≡ rulingOn (length (now (memory .entry))) (stateAs s) (now (table .entry)) (request.unlock token task) [] ⌝ }
 {
-    let r = check_unlock(s, table, memory.len() as u64, token, task);
+    let r = check_unlock(s, table, memory.len() as u64, token, read(token), task);
     match r {
         Reached::Stop(why) => refused(s, why),
         Reached::Owner(o) => relock_at(s, table, o, false, 0),

@@ -2,16 +2,21 @@
 -- Assumes nothing.
 use mathlib.Core.Path.{_≡_, refl, sym, ap, subst, _∙_}
 use mathlib.Core.Logic.{_≢_}
+use mathlib.Core.Bool.{Bool, true, false, false≢true, not, _&&_}
 use mathlib.Core.List.{List, [], _∷_, _++_}
 use Prim.Native.Nat.{ℕ, zero, suc, _/_, _^_, _<_}
 use native.Mathlib.Nat.{mod-eq-of-lt}
 use native.Mathlib.Omega.{arith}
+use lib.Dec.{eqb}
 use lib.ListN.{drop, getD, length, replicate}
+use borrow.Author.Tests.{not-true}
 use Rattle.bits.specs.SipHash.{word}
-use Rattle.machine.specs.Demand3.{IsReset}
+use Rattle.bits.proofs.TestLaws.{both}
+use Rattle.machine.specs.Demand3.{IsReset, resets}
 use Rattle.machine.specs.Lent.{AllBytes}
 use Rattle.machine.specs.Parts.{State}
 use Rattle.machine.specs.Requests.{Call, Request, reset}
+use Rattle.machine.specs.Rows.{row}
 use Rattle.machine.specs.Steps as steps
 use Rattle.machine.specs.Steps.{Machine, run, step}
 use Rattle.machine.proofs.Settled.{keys, KeysFit, none, StateFits, words-stay}
@@ -69,24 +74,35 @@ pub data Kind (o k x : ℕ) : Asked → Type 0 where
   other : {r : Request} → o ≢ 0 → (IsReset r → ⊥) → Kind o k x (known r)
   neither : Kind o k x unknown
 
-abbrev AllOf : (Asked → Type 0) → List Asked → Type 0
-AllOf P [] = Unit {0}
-AllOf P (k ∷ ks) = P k × AllOf P ks
+-- it alone is judged by one row of refusals
+isReset : Asked → Bool
+isReset (known r) = eqb (length (row r)) 1
+isReset unknown = false
 
-all-of : (P : Asked → Type 0) (ks : List Asked) → AllOf P ks → P unknown → (n : ℕ) → P (getD ks n unknown)
-all-of P [] h d n = d
-all-of P (k ∷ ks) h d zero = h .0
-all-of P (k ∷ ks) h d (suc n) = all-of P ks (h .1) d n
+noReset : List Asked → Bool
+noReset [] = true
+noReset (k ∷ ks) = not (isReset k) && noReset ks
+
+none-reset : (ks : List Asked) → noReset ks ≡ true → (n : ℕ) → isReset (getD ks n unknown) ≡ false
+unfolding isReset noReset
+none-reset [] h n = refl
+none-reset (k ∷ ks) h zero = not-true (isReset k) (both (not (isReset k)) (noReset ks) h .0)
+none-reset (k ∷ ks) h (suc n) = none-reset ks (both (not (isReset k)) (noReset ks) h .1) n
 
 kinds : (o k x u l m p c : ℕ) → Kind o k x (picked o k x u l m p c)
-unfolding picked
+unfolding picked isReset noReset
 kinds zero k x u l m p c = first u refl
-kinds (suc n) k x u l m p c =
-    let i : suc n ≢ 0 = λ e. omega arith in
-    all-of (Kind (suc n) k x) (drop 1 (requests k x u l m p c))
-    (other i (elim [ ]), (other i (elim [ ]), (other i (elim [ ]), (other i (elim [ ]), (other i (elim [ ]), (other i (elim [ ]), (other i (elim [ ]), (other i (elim [ ]), (other i (elim [ ]), (other i (elim [ ]), (other i (elim [ ]), (other i (elim [ ]), tt))))))))))))
-    neither
-    n
+kinds (suc n) k x u l m p c = go (getD later n unknown) (none-reset later refl n)
+  where
+    later : List Asked
+    later = drop 1 (requests k x u l m p c)
+
+    apart : (r : Request) → isReset (known r) ≡ false → IsReset r → ⊥
+    apart _ h resets = false≢true (sym h)
+
+    go : (k′ : Asked) → isReset k′ ≡ false → Kind (suc n) k x k′
+    go (known r) h = other (λ e. omega arith) (apart r h)
+    go unknown h = neither
 
 pub kind-of : (κ : Standing) (q : Brought) (r : Request) → asks κ q ≡ known r → Kind (word (q .request) 0) (word (q .request) 1) (word (q .request) 2) (known r)
 kind-of κ q r h = subst (Kind (word (q .request) 0) (word (q .request) 1) (word (q .request) 2)) (sym (request-sized (q .request) (κ .state) (q .answer) r h .1)) (kinds _ _ _ _ _ _ _ _)

@@ -44,7 +44,7 @@ Turned s t m b r t′ m′ b′ q = (after r t′ m′ ≡ step (before s t m) (
 pub turned-as : (s : StateWords) (t m b : List ℕ) (r : Outcome) (t′ m′ b′ : List ℕ) (q p : Request) → q ≡ p → Turned s t m b r t′ m′ b′ p → Turned s t m b r t′ m′ b′ q
 turned-as s t m b r t′ m′ b′ q p e h = subst (Turned s t m b r t′ m′ b′) (sym e) h
 
-turn : (s : StateWords) (t m b : List ℕ) (q : Request) (r : Outcome) (t′ m′ b′ : List ℕ)
+pub turn : (s : StateWords) (t m b : List ℕ) (q : Request) (r : Outcome) (t′ m′ b′ : List ℕ)
     → handed r t′ ≡ rulingOn (length m) (stateAs s) t q b
     → m′ ≡ memoryAfter (effectOn (length m) (stateAs s) t q b) m
     → b′ ≡ bufferAfter (effectOn (length m) (stateAs s) t q b) m b

@@ -1,5 +1,6 @@
 -- A request served, as one step of the machine.
 -- Assumes nothing.
+use mathlib.Core.Path.{_≡_}
 use mathlib.Core.List.{List}
 use Prim.Native.Nat.{ℕ}
 use Rattle.machine.specs.Requests as request
@@ -8,6 +9,9 @@ use Rattle.table.specs.States.{stateAs}
 use Rattle.table.specs.declared.state.StateWords.{StateWords}
 use Rattle.rulings.specs.Rulings.{replyAs}
 use Rattle.rulings.specs.declared.reply.Outcome.{Outcome}
+use Rattle.accesses.specs.Ways.{wayAs}
+use Rattle.operations.specs.declared.serve.Accessing.{Accessing}
+use Rattle.operations.specs.declared.serve.Accessing.the-variants.{Other, Through}
 use Rattle.operations.specs.declared.serve.Request.{Request}
 use Rattle.operations.specs.declared.serve.Request.the-variants.{Clone, Create, Derive, Drop, ExecuteOnly, Fetch, Lock, Merge, Read, Reset, Revoke, Unlock, Write}
 
@@ -26,6 +30,11 @@ requestAs (Drop k) = request.release k
 requestAs (Lock k u) = request.lock k u
 requestAs (Unlock k u) = request.unlock k u
 requestAs (Revoke k c) = request.revoke k c
+
+-- r tells the way of the request q, if it is an access
+abbrev pub Accesses : Accessing → Request → Type 0
+Accesses (Through w k u) q = requestAs q ≡ request.access (wayAs w) k u
+Accesses Other q = Unit
 
 abbrev pub callAs : request.Request → List ℕ → request.Call
 callAs q b = record { request = q; buffer = b }

@@ -1,9 +1,11 @@
 // Any request, served: one step of the machine.
 use crate::state::State;
+use accesses::access::Way;
+use accesses::access::access;
 use rulings::reply::Outcome;
 ghost use mathlib.Core.Path.{_≡_};
 ghost use Rattle.machine.specs.Steps.{answer, step};
-ghost use Rattle.operations.specs.Turns.{after, answered, before, callAs, requestAs};
+ghost use Rattle.operations.specs.Turns.{Accesses, after, answered, before, callAs, requestAs};
 
 // A request with all that it carries. An access has its bytes in the buffer that is lent with it.
 pub enum Request {
@@ -69,10 +71,38 @@ pub enum Request {
     },
 }
 
+// A request that is an access, with its way, or another one.
+pub enum Accessing {
+    Through { way: Way, token: u64, task: u64 },
+    Other,
+}
+
+fn way_of(request: Request) -> Accessing
+    ensures { λ r. ⌜ Accesses r request ⌝ }
+{
+    match request {
+        Request::Read { token, task } => Accessing::Through {
+            way: Way::Read,
+            token,
+            task,
+        },
+        Request::Write { token, task } => Accessing::Through {
+            way: Way::Write,
+            token,
+            task,
+        },
+        Request::Fetch { token, task } => Accessing::Through {
+            way: Way::Fetch,
+            token,
+            task,
+        },
+        _ => Accessing::Other,
+    }
+}
+
 impl State {
-    // Serves any request: what it hands back, and what table, memory and buffer then hold, is one
-    // step of the machine and its answer.
-    pub fn serve(
+    // Serves any request by its own method.
+    fn operate(
         mut self,
         request: Request,
         table: &mut [u8],
@@ -129,6 +159,28 @@ impl State {
                 permissions,
                 encoding,
             ),
+        }
+    }
+
+    // Serves any request: what it hands back, and what table, memory and buffer then hold, is one
+    // step of the machine and its answer. The three ways of access are one call.
+    pub fn serve(
+        mut self,
+        request: Request,
+        table: &mut [u8],
+        memory: &mut [u8],
+        buffer: &mut [u8],
+    ) -> Outcome
+        ensures { λ r. ⌜ after r (now (table .exit)) (now (memory .exit)) ≡ step (before (self .words) (now (table .entry)) (now (memory .entry))) (callAs (requestAs request) (now (buffer .entry))) ⌝ }
+        ensures { λ r. ⌜ answered r (now (buffer .exit)) ≡ answer (before (self .words) (now (table .entry)) (now (memory .entry))) (callAs (requestAs request) (now (buffer .entry))) ⌝ }
+    {
+        let a = way_of(request);
+        match a {
+            Accessing::Through { way, token, task } => {
+                let words = self.words;
+                access(words, way, table, memory, buffer, token, task)
+            }
+            Accessing::Other => self.operate(request, table, memory, buffer),
         }
     }
 }

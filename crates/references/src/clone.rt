@@ -1,6 +1,6 @@
 // Clone adds one to the count.
 use checks::reach::Reached;
-use checks::reach::reach_live;
+use checks::reach::reach_near;
 use checks::refusal::Refusal;
 use checks::settings::settings;
 use layout::entry::count_of;
@@ -12,6 +12,7 @@ use table::entries::entry_at;
 use table::entries::words_at;
 use table::state::StateWords;
 use table::writes::recount;
+use tokens::token::Named;
 use tokens::token::read;
 ghost use mathlib.Core.Path.{_≡_};
 ghost use mathlib.Core.List.{[]};
@@ -19,14 +20,16 @@ ghost use lib.ListN.{length};
 ghost use Rattle.machine.specs.Requests as request;
 ghost use Rattle.machine.specs.Steps.{pass};
 ghost use Rattle.table.specs.States.{stateAs};
+ghost use Rattle.tokens.specs.Token as tokens;
 ghost use Rattle.rulings.specs.Rulings.{checkedAs, granting, handed, rulingOn, verdictOn};
 
-fn check_clone(s: StateWords, table: &[u8], memory: u64, token: u64) -> Checked
+// The token is read as named.
+fn check_clone(s: StateWords, table: &[u8], memory: u64, token: u64, named: Named) -> Checked
+    requires { ⌜ named ≡ tokens.named token ⌝ }
     ensures { λ r. ⌜ checkedAs r ≡ verdictOn memory (stateAs s) (now (table .entry)) (request.clone token) [] ⌝ }
 {
-    let named = read(token);
     if settings(memory, s, table) & (named.offset == 0) {
-        let r = reach_live(table, memory, token);
+        let r = reach_near(table, memory, token, named);
         match r {
             Reached::Stop(why) => Checked::Stop(why),
             Reached::Owner(_) => {
@@ -43,11 +46,17 @@ fn check_clone(s: StateWords, table: &[u8], memory: u64, token: u64) -> Checked
     }
 }
 
-fn grant_clone(mut s: StateWords, table: &mut [u8], memory: u64, token: u64) -> Outcome
+fn grant_clone(
+    mut s: StateWords,
+    table: &mut [u8],
+    memory: u64,
+    token: u64,
+    named: Named,
+) -> Outcome
+    requires { ⌜ named ≡ tokens.named token ⌝ }
     requires { ⌜ verdictOn memory (stateAs s) (now table) (request.clone token) [] ≡ pass ⌝ }
     ensures { λ r. ⌜ handed r (now (table .exit)) ≡ granting memory (stateAs s) (now (table .entry)) (request.clone token) [] ⌝ }
 {
-    let named = read(token);
     let n = named.number as usize;
     let w = words_at(table, n);
     recount(table, n, w, count_of(w) + 1);
@@ -59,9 +68,10 @@ pub fn clone(mut s: StateWords, table: &mut [u8], memory: &[u8], token: u64) -> 
     ensures { λ r. ⌜ handed r (now (table .exit)) ≡ rulingOn (length (now (memory .entry))) (stateAs s) (now (table .entry)) (request.clone token) [] ⌝ }
 {
     let bytes = memory.len() as u64;
-    let r = check_clone(s, table, bytes, token);
+    let named = read(token);
+    let r = check_clone(s, table, bytes, token, named);
     match r {
         Checked::Stop(why) => refused(s, why),
-        Checked::Pass => grant_clone(s, table, bytes, token),
+        Checked::Pass => grant_clone(s, table, bytes, token, named),
     }
 }

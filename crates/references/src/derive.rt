@@ -2,7 +2,7 @@
 use crate::child::allot_child;
 use crate::child::grant_child;
 use checks::reach::Reached;
-use checks::reach::reach_live;
+use checks::reach::reach_near;
 use checks::refusal::Refusal;
 use checks::settings::settings;
 use rulings::allot::Allotted;
@@ -11,6 +11,7 @@ use rulings::reply::refused;
 use table::entries::entry_at;
 use table::state::StateWords;
 use tokens::permissions::within;
+use tokens::token::Named;
 use tokens::token::read;
 ghost use mathlib.Core.Path.{_≡_};
 ghost use mathlib.Core.List.{[]};
@@ -21,6 +22,7 @@ ghost use Rattle.machine.specs.Operations.{numberOf};
 ghost use Rattle.machine.specs.Requests as request;
 ghost use Rattle.rulings.specs.Allotments.{allotted, Allots, Limits};
 ghost use Rattle.table.specs.States.{stateAs};
+ghost use Rattle.tokens.specs.Token as tokens;
 ghost use Rattle.rulings.specs.Rulings.{granting, handed, restOn, rulingOn, verdictOn};
 
 // The true sum of a and b is below the end.
@@ -30,20 +32,21 @@ fn sum_below(a: u64, b: u64, end: u64) -> bool
     if a < end { b < end - a } else { false }
 }
 
-// Places 7 to 11, which look at nothing else that the request carries.
+// Places 7 to 11, which look at nothing else that the request carries. The token is read as named.
 fn check_part(
     s: StateWords,
     table: &[u8],
     token: u64,
+    named: Named,
     offset: u64,
     length: u64,
     permissions: u64,
 ) -> Allotted
+    requires { ⌜ named ≡ tokens.named token ⌝ }
     requires { ⌜ Limits (stateAs s) (now table) × (permissions ≤ 7) ⌝ }
     requires { ⌜ 32 * numberOf token + 32 ≤ list.length (now table) ⌝ }
     ensures { λ r. ⌜ ((m c : ℕ) → Allots (stateAs s) (now (table .entry)) r (restOn m (stateAs s) (now (table .entry)) (request.derive token offset length permissions c) [])) ⌝ }
 {
-    let named = read(token);
     let e = entry_at(table, named.number as usize);
     if !within(permissions as u8, e.permissions) {
         return Allotted::Stop(Refusal::Right);
@@ -59,24 +62,25 @@ fn check_derive(
     table: &[u8],
     memory: u64,
     token: u64,
+    named: Named,
     offset: u64,
     length: u64,
     permissions: u64,
     encoding: u64,
 ) -> Allotted
+    requires { ⌜ named ≡ tokens.named token ⌝ }
     ensures { λ r. ⌜ Allots (stateAs s) (now (table .entry)) r (verdictOn memory (stateAs s) (now (table .entry)) (request.derive token offset length permissions encoding) []) ⌝ }
 {
-    let named = read(token);
     if settings(memory, s, table)
         & (encoding <= 3)
         & (permissions <= 7)
         & (length != 0)
         & (named.offset == 0)
     {
-        let r = reach_live(table, memory, token);
+        let r = reach_near(table, memory, token, named);
         match r {
             Reached::Stop(why) => Allotted::Stop(why),
-            Reached::Owner(_) => check_part(s, table, token, offset, length, permissions),
+            Reached::Owner(_) => check_part(s, table, token, named, offset, length, permissions),
         }
     } else {
         Allotted::Stop(Refusal::Request)
@@ -89,15 +93,16 @@ fn grant_derive(
     memory: u64,
     new: usize,
     token: u64,
+    named: Named,
     offset: u64,
     length: u64,
     permissions: u64,
     encoding: u64,
 ) -> Outcome
+    requires { ⌜ named ≡ tokens.named token ⌝ }
     requires { ⌜ allotted memory (stateAs s) (now table) (request.derive token offset length permissions encoding) new ⌝ }
     ensures { λ r. ⌜ handed r (now (table .exit)) ≡ granting memory (stateAs s) (now (table .entry)) (request.derive token offset length permissions encoding) [] ⌝ }
 {
-    let named = read(token);
     grant_child(
         s,
         table,
@@ -124,11 +129,13 @@ pub fn derive(
     ensures { λ r. ⌜ handed r (now (table .exit)) ≡ rulingOn (list.length (now (memory .entry))) (stateAs s) (now (table .entry)) (request.derive token offset length permissions encoding) [] ⌝ }
 {
     let bytes = memory.len() as u64;
+    let named = read(token);
     let r = check_derive(
         s,
         table,
         bytes,
         token,
+        named,
         offset,
         length,
         permissions,
@@ -142,6 +149,7 @@ pub fn derive(
             bytes,
             new,
             token,
+            named,
             offset,
             length,
             permissions,

@@ -1,6 +1,7 @@
 // Drop takes one from the count; an indirect entry at 1 is freed, and the drop climbs.
 use checks::reach::Formed;
-use checks::reach::reach_formed;
+use checks::reach::forms;
+use checks::reach::reach_near;
 use checks::refusal::Refusal;
 use checks::settings::settings;
 use rulings::reply::Outcome;
@@ -13,6 +14,7 @@ use table::line::parent_number;
 use table::state::StateWords;
 use table::writes::recount;
 use table::writes::vacate;
+use tokens::token::Named;
 use tokens::token::read;
 ghost use mathlib.Core.Path.{_≡_};
 ghost use mathlib.Core.List.{[]};
@@ -24,6 +26,7 @@ ghost use Rattle.machine.specs.Operations.{numberOf};
 ghost use Rattle.machine.specs.Requests as request;
 ghost use Rattle.machine.specs.Steps.{pass};
 ghost use Rattle.table.specs.States.{stateAs};
+ghost use Rattle.tokens.specs.Token as tokens;
 ghost use Rattle.rulings.specs.Rulings.{granting, handed, rulingOn, verdictOn};
 ghost use Rattle.references.specs.Climbs.{Climbed};
 
@@ -47,13 +50,27 @@ fn climb(table: &mut [u8], n: usize)
     }
 }
 
-// Place 4 is skipped. The line's lock is told with the pass.
-fn check_drop(s: StateWords, table: &[u8], memory: u64, token: u64) -> Formed
+// The same, quick where entry n is direct: it stays, so that nothing climbs.
+fn fall(table: &mut [u8], n: usize)
+    requires { ⌜ 32 * n + 32 ≤ length (now table) ⌝ }
+    ensures { λ _. ⌜ Climbed (now (table .entry)) n (now (table .exit)) ⌝ }
+{
+    let e = entry_at(table, n);
+    if (e.kind == 1) & (e.count != 0) {
+        recount(table, n, words_at(table, n), e.count - 1);
+    } else {
+        climb(table, n);
+    }
+}
+
+// Place 4 is skipped. The line's lock is told with the pass. The token is read as named.
+fn check_drop(s: StateWords, table: &[u8], memory: u64, token: u64, named: Named) -> Formed
+    requires { ⌜ named ≡ tokens.named token ⌝ }
     ensures { λ r. ⌜ Forms r (verdictOn memory (stateAs s) (now (table .entry)) (request.release token) []) (isLocked (now (table .entry)) (lineOf memory (now (table .entry)) (numberOf token))) ⌝ }
 {
-    let named = read(token);
     if settings(memory, s, table) & (named.offset == 0) {
-        let r = reach_formed(table, memory, token);
+        let near = reach_near(table, memory, token, named);
+        let r = forms(table, memory, token, near);
         match r {
             Formed::Stop(why) => Formed::Stop(why),
             Formed::Locked(locked) => {
@@ -71,19 +88,26 @@ fn check_drop(s: StateWords, table: &[u8], memory: u64, token: u64) -> Formed
 }
 
 // At count 1 under a lock nothing changes.
-fn grant_drop(mut s: StateWords, table: &mut [u8], memory: u64, token: u64, locked: bool) -> Outcome
+fn grant_drop(
+    mut s: StateWords,
+    table: &mut [u8],
+    memory: u64,
+    token: u64,
+    named: Named,
+    locked: bool,
+) -> Outcome
+    requires { ⌜ named ≡ tokens.named token ⌝ }
     requires { ⌜ verdictOn memory (stateAs s) (now table) (request.release token) [] ≡ pass ⌝ }
     requires { ⌜ locked ≡ isLocked (now table) (lineOf memory (now table) (numberOf token)) ⌝ }
     ensures { λ r. ⌜ handed r (now (table .exit)) ≡ granting memory (stateAs s) (now (table .entry)) (request.release token) [] ⌝ }
 {
-    let named = read(token);
     let n = named.number as usize;
     let e = entry_at(table, n);
     let one = e.count == 1;
     if one & locked {
         return plain(s, 0);
     }
-    climb(table, n);
+    fall(table, n);
     if one { plain(s, 1) } else { plain(s, 0) }
 }
 
@@ -92,9 +116,10 @@ pub fn drop(mut s: StateWords, table: &mut [u8], memory: &[u8], token: u64) -> O
     ensures { λ r. ⌜ handed r (now (table .exit)) ≡ rulingOn (length (now (memory .entry))) (stateAs s) (now (table .entry)) (request.release token) [] ⌝ }
 {
     let bytes = memory.len() as u64;
-    let r = check_drop(s, table, bytes, token);
+    let named = read(token);
+    let r = check_drop(s, table, bytes, token, named);
     match r {
         Formed::Stop(why) => refused(s, why),
-        Formed::Locked(locked) => grant_drop(s, table, bytes, token, locked),
+        Formed::Locked(locked) => grant_drop(s, table, bytes, token, named, locked),
     }
 }

@@ -2,7 +2,7 @@
 use crate::child::allot_child;
 use crate::child::grant_child;
 use checks::reach::Reached;
-use checks::reach::reach_live;
+use checks::reach::reach_near;
 use checks::refusal::Refusal;
 use checks::settings::settings;
 use rulings::allot::Allotted;
@@ -31,7 +31,7 @@ fn check_execute_only(
 {
     let named = read(token);
     if settings(memory, s, table) & (encoding <= 3) & (named.offset == 0) {
-        let r = reach_live(table, memory, token);
+        let r = reach_near(table, memory, token, named);
         match r {
             Reached::Stop(why) => Allotted::Stop(why),
             Reached::Owner(_) => {

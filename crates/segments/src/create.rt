@@ -1,6 +1,7 @@
 // Create splits a segment: a front part gets a new number, and the rest keeps the old one.
 use checks::reach::Reached;
-use checks::reach::reach;
+use checks::reach::opens;
+use checks::reach::reach_near;
 use checks::refusal::Refusal;
 use checks::settings::settings;
 use layout::entry::Entry;
@@ -80,7 +81,8 @@ fn check_create(
         & (length != 0)
         & (named.offset == 0)
     {
-        let r = reach(table, memory, token, task);
+        let near = reach_near(table, memory, token, named);
+        let r = opens(table, memory, token, task, near);
         match r {
             Reached::Stop(why) => Allotted::Stop(why),
             Reached::Owner(_) => {

@@ -1,6 +1,7 @@
 // Merge joins two neighbours into one segment.
 use checks::reach::Reached;
-use checks::reach::reach;
+use checks::reach::opens;
+use checks::reach::reach_near;
 use checks::refusal::Refusal;
 use checks::settings::settings;
 use layout::entry::Entry;
@@ -13,6 +14,7 @@ use table::entries::entry_at;
 use table::state::StateWords;
 use table::writes::reissue;
 use table::writes::vacate;
+use tokens::token::Named;
 use tokens::token::read;
 ghost use mathlib.Core.Path.{_≡_};
 ghost use mathlib.Core.List.{List, []};
@@ -23,6 +25,7 @@ ghost use Rattle.machine.specs.Parts.{at, State};
 ghost use Rattle.machine.specs.Requests as request;
 ghost use Rattle.machine.specs.Steps.{pass};
 ghost use Rattle.table.specs.States.{stateAs};
+ghost use Rattle.tokens.specs.Token as tokens;
 ghost use Rattle.rulings.specs.Rulings.{checkedAs, granting, handed, restOn, rulingOn, tokensOn, verdictOn};
 ghost use Rattle.segments.specs.Neighbours.{Pairs};
 
@@ -32,15 +35,26 @@ pub enum Pair {
     Numbers(usize, usize),
 }
 
-// Places 2 to 5 for one token, then for the other.
-fn reach_both(table: &[u8], memory: u64, first: u64, second: u64, task: u64) -> Checked
+// Places 2 to 5 for one token, then for the other. The tokens are read as one and two.
+fn reach_both(
+    table: &[u8],
+    memory: u64,
+    first: u64,
+    second: u64,
+    one: Named,
+    two: Named,
+    task: u64,
+) -> Checked
+    requires { ⌜ (one ≡ tokens.named first) × (two ≡ tokens.named second) ⌝ }
     ensures { λ r. ⌜ ((s : State) (c : ℕ) → checkedAs r ≡ tokensOn memory s (now (table .entry)) (request.merge first second task c) []) ⌝ }
 {
-    let a = reach(table, memory, first, task);
+    let near = reach_near(table, memory, first, one);
+    let a = opens(table, memory, first, task, near);
     match a {
         Reached::Stop(why) => Checked::Stop(why),
         Reached::Owner(_) => {
-            let b = reach(table, memory, second, task);
+            let next = reach_near(table, memory, second, two);
+            let b = opens(table, memory, second, task, next);
             match b {
                 Reached::Stop(why) => Checked::Stop(why),
                 Reached::Owner(_) => Checked::Pass,
@@ -100,7 +114,7 @@ fn check_merge(
         & (a.offset == 0)
         & (b.offset == 0)
     {
-        let r = reach_both(table, memory, first, second, task);
+        let r = reach_both(table, memory, first, second, a, b, task);
         match r {
             Checked::Stop(why) => Pair::Stop(why),
             Checked::Pass => {

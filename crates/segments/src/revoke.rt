@@ -1,7 +1,7 @@
 // Revoke zeros a segment and issues its number anew, under another tag than it had.
 use bits::slice::clear_from;
 use checks::reach::Reached;
-use checks::reach::reach_live;
+use checks::reach::reach_near;
 use checks::refusal::Refusal;
 use checks::settings::settings;
 use layout::entry::Entry;
@@ -63,7 +63,7 @@ fn check_revoke(s: StateWords, table: &[u8], memory: u64, token: u64, encoding: 
 {
     let named = read(token);
     if settings(memory, s, table) & (encoding <= 3) & (named.offset == 0) {
-        let r = reach_live(table, memory, token);
+        let r = reach_near(table, memory, token, named);
         match r {
             Reached::Stop(why) => Renewal::Stop(why),
             Reached::Owner(_) => {

@@ -1,3 +1,4 @@
+pub mod CutLaws
 pub mod FitLaws
 pub mod LineLaws
 pub mod SearchLaws

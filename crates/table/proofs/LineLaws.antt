@@ -64,3 +64,11 @@ module _ (t : List ℕ) (k p : ℕ) (e : Entry) (l : Bool) (is : e ≡ at t k) (
   pub walk-in : 32 * p + 32 ≤ length t
   unfolding size
   walk-in = let h : parentNumber e < length t / 32 = linked-in t e (sym q ∙ y) in rw r (omega arith)
+
+-- the line of a direct entry
+module _ (m : ℕ) (t : List ℕ) (n : ℕ) (e : Entry) (b : Bool) (is : e ≡ at t n) (form : b ≡ illFormed m e) where
+  pub own-ill : b ≡ true → ill n ≡ lineOf m t n
+  own-ill = walk-ill m t n n e b refl is form
+
+  pub own-owner : b ≡ false → e .kind ≡ 1 → owner n ≡ lineOf m t n
+  own-owner = walk-owner m t n n e b refl is form

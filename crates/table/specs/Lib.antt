@@ -1,3 +1,4 @@
+pub mod Cuts
 pub mod Left
 pub mod Lines
 pub mod Searches

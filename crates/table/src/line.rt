@@ -1,4 +1,7 @@
 // The line of an entry: from link to link up to its owner.
+use crate::cut::above;
+use crate::cut::cut_at;
+use crate::cut::passes;
 use crate::entries::entry_at;
 use layout::entry::Entry;
 use layout::form::ill_formed;
@@ -45,8 +48,8 @@ pub fn linked(table: &[u8], e: Entry) -> bool
     }
 }
 
-// The end of the line of entry n, in a memory of so many bytes.
-pub fn walk(table: &[u8], memory: u64, n: usize) -> Line
+// The end of the line of entry n, in a memory of so many bytes, whatever the entries are.
+fn trace(table: &[u8], memory: u64, n: usize) -> Line
     requires { ⌜ 32 * n + 32 ≤ length (now table) ⌝ }
     ensures { λ r. ⌜ lineAs r ≡ lineOf memory (now (table .entry)) n ⌝ }
     ensures { λ r. ⌜ 32 * endOf (lineAs r) + 32 ≤ length (now (table .entry)) ⌝ }
@@ -66,4 +69,53 @@ pub fn walk(table: &[u8], memory: u64, n: usize) -> Line
             return Line::Dead(k);
         }
     }
+}
+
+// The same, quick where entry n is direct.
+fn ended(table: &[u8], memory: u64, n: usize) -> Line
+    requires { ⌜ 32 * n + 32 ≤ length (now table) ⌝ }
+    ensures { λ r. ⌜ lineAs r ≡ lineOf memory (now (table .entry)) n ⌝ }
+    ensures { λ r. ⌜ 32 * endOf (lineAs r) + 32 ≤ length (now (table .entry)) ⌝ }
+{
+    let e = entry_at(table, n);
+    if e.kind == 1 {
+        if ill_formed(memory, e) {
+            Line::Ill(n)
+        } else {
+            Line::Owner(n)
+        }
+    } else {
+        trace(table, memory, n)
+    }
+}
+
+// How far the line of entry n goes up by entries that are well-formed and linked, each read once:
+// the number of the first that is not passed, whose line ends where that of entry n does.
+fn climb(table: &[u8], memory: u64, n: usize) -> usize
+    requires { ⌜ 32 * n + 32 ≤ length (now table) ⌝ }
+    ensures { λ r. ⌜ lineOf memory (now (table .entry)) r ≡ lineOf memory (now (table .entry)) n ⌝ }
+    ensures { λ r. ⌜ 32 * r + 32 ≤ length (now (table .entry)) ⌝ }
+{
+    let room = table.len() / 32 * 32;
+    let mut byte = 32 * n;
+    let mut c = cut_at(table, byte);
+    while passes(memory, room as u64, c) {
+        let up = c.up as usize;
+        let p = cut_at(table, up);
+        if !above(p, c) {
+            return byte / 32;
+        }
+        byte = up;
+        c = p;
+    }
+    byte / 32
+}
+
+// The end of the line of entry n, in a memory of so many bytes.
+pub fn walk(table: &[u8], memory: u64, n: usize) -> Line
+    requires { ⌜ 32 * n + 32 ≤ length (now table) ⌝ }
+    ensures { λ r. ⌜ lineAs r ≡ lineOf memory (now (table .entry)) n ⌝ }
+    ensures { λ r. ⌜ 32 * endOf (lineAs r) + 32 ≤ length (now (table .entry)) ⌝ }
+{
+    ended(table, memory, climb(table, memory, n))
 }

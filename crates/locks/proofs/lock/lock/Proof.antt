@@ -18,7 +18,7 @@ use Rattle.locks.proofs.lock.lock.Tie as tie
 
 -- what is known of the checks, where they come to r
 known : (c : tie.After-check-lock) (r : Reached) → c .check-lock .result ≡ r
-    → let a = c .before .before .before .before .args in
+    → let a = c .before .before .before .before .before .args in
     Reaches (a .table .now) r (verdictOn (length (a .memory .now)) (stateAs (a .s)) (a .table .now) (lock (a .token) (a .task)) []) (lineOf (length (a .memory .now)) (a .table .now) (numberOf (a .token)))
 known c r q = rw q at (c .check-lock .ensures)
 
@@ -26,6 +26,7 @@ pub lock-spec : {M : Type 1} → statement M
 lock-spec =
     tie.close
     (tie.spec
+    (λ c κs. search needs)
     (λ c κs. search needs)
     (λ c. search needs)
     (λ c κs. search needs)

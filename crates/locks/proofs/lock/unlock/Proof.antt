@@ -19,7 +19,7 @@ use Rattle.locks.proofs.lock.unlock.Tie as tie
 
 -- what is known of the checks, where they come to r
 known : (c : tie.After-check-unlock) (r : Reached) → c .check-unlock .result ≡ r
-    → let a = c .before .before .before .before .args in
+    → let a = c .before .before .before .before .before .args in
     Reaches (a .table .now) r (verdictOn (length (a .memory .now)) (stateAs (a .s)) (a .table .now) (unlock (a .token) (a .task)) []) (lineOf (length (a .memory .now)) (a .table .now) (numberOf (a .token)))
 known c r q = rw q at (c .check-unlock .ensures)
 
@@ -27,6 +27,7 @@ pub unlock-spec : {M : Type 1} → statement M
 unlock-spec =
     tie.close
     (tie.spec
+    (λ c κs. search needs)
     (λ c κs. search needs)
     (λ c. search needs)
     (λ c κs. search needs)

@@ -19,15 +19,15 @@ use Rattle.references.proofs.clone.check_clone.Statement.{statement}
 use Rattle.references.proofs.clone.check_clone.Tie as tie
 
 -- place 1, as the test says, and what the token comes to
-asked : (c : tie.After-settings) (b : Bool) → (c .settings .result && eqb (c .before .read .result .offset) 0) ≡ b
-    → let a = c .before .before .before .args in
+asked : (c : tie.After-settings) (b : Bool) → (c .settings .result && eqb (c .before .before .args .named .offset) 0) ≡ b
+    → let a = c .before .before .args in
     requestHolds (a .memory) (stateAs (a .s)) (a .table .now) (clone (a .token)) [] ≡ b
-asked c b h = sym (clone-request _ _ _ _ _ (c .before .read .ensures)) ∙ rw (c .settings .ensures) at h
+asked c b h = sym (clone-request _ _ _ _ _ (c .before .before .pre)) ∙ rw (c .settings .ensures) at h
 
-token : (c : tie.After-reach-live) (r : Reached) → c .reach-live .result ≡ r
-    → let a = c .before .before .before .before .before .before .args in
+token : (c : tie.After-reach-near) (r : Reached) → c .reach-near .result ≡ r
+    → let a = c .before .before .before .before .before .args in
     Reaches (a .table .now) r (liveVerdict (a .memory) (a .table .now) (a .token)) (lineOf (a .memory) (a .table .now) (numberOf (a .token)))
-token c r q = rw q at (c .reach-live .ensures)
+token c r q = rw q at (c .reach-near .ensures)
 
 pub check-clone-spec : {M : Type 1} → statement M
 check-clone-spec =
@@ -35,10 +35,9 @@ check-clone-spec =
     (tie.spec
     (λ c κs. search needs)
     (λ c κs. search needs)
-    (λ c κs. search needs)
     (λ c. search needs)
     (λ c. search needs)
-    (λ c κs. let l = c .before .before in rw (l .before .before .before .before .read .ensures) (live-in _ _ _ (token l _ (c .enum-told .given .1) .0)))
+    (λ c κs. let l = c .before .before in rw (l .before .before .before .before .before .pre) (live-in _ _ _ (token l _ (c .enum-told .given .1) .0)))
     (λ c.
     let l = c .before .before .before in
     sym (token-stops _ _ _ _ _ (asked (l .before .before .before) _ (l .before .if1 .taken)) (clone-token _ _ _ _ (token l _ (c .before .r .given .1)))))
@@ -46,10 +45,10 @@ check-clone-spec =
     let e = c .before .before in
     let l = e .before .before .before in
     let s = l .before .before .before in
-    sym (clone-pass _ _ _ _ _ (s .before .read .ensures) (e .entry-at .result) (e .entry-at .ensures) (asked s _ (l .before .if1 .taken)) (token l _ (e .before .enum-told .given .1) .0) (c .if2 .taken)))
+    sym (clone-pass _ _ _ _ _ (s .before .before .pre) (e .entry-at .result) (e .entry-at .ensures) (asked s _ (l .before .if1 .taken)) (token l _ (e .before .enum-told .given .1) .0) (c .if2 .taken)))
     (λ c.
     let e = c .before .before in
     let l = e .before .before .before in
     let s = l .before .before .before in
-    sym (clone-count _ _ _ _ _ (s .before .read .ensures) (e .entry-at .result) (e .entry-at .ensures) (asked s _ (l .before .if1 .taken)) (token l _ (e .before .enum-told .given .1) .0) (c .if2 .left)))
+    sym (clone-count _ _ _ _ _ (s .before .before .pre) (e .entry-at .result) (e .entry-at .ensures) (asked s _ (l .before .if1 .taken)) (token l _ (e .before .enum-told .given .1) .0) (c .if2 .left)))
     (λ c. sym (request-stops _ _ _ _ _ (asked (c .before .before) _ (c .if1 .left)))))

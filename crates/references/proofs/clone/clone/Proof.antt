@@ -10,10 +10,11 @@ clone-spec =
     tie.close
     (tie.spec
     (λ c κs. search needs)
+    (λ c κs. search needs)
     (λ c. search needs)
     (λ c κs. search needs)
     (λ c. search needs)
-    (λ c κs. verdict-pass _ _ _ _ _ _ (c .before .before .before .check-clone .ensures) (c .before .enum-told .given .1))
+    (λ c κs. (c .before .before .before .before .before .read .ensures, verdict-pass _ _ _ _ _ _ (c .before .before .before .check-clone .ensures) (c .before .enum-told .given .1)))
     (λ c. search needs)
     (λ c.
     let k = c .before .before .before .before in

@@ -9,23 +9,22 @@ pub check-part-spec : {M : Type 1} → statement M
 check-part-spec =
     tie.close
     (tie.spec
-    (λ c κs. search needs)
-    (λ c κs. rw (c .read .ensures) (c .before .before .pre .1))
+    (λ c κs. let p = c .before .pre in rw (p .0) (p .1 .1))
     (λ c. search needs)
     (λ c κs. search needs)
-    (λ c m e. let w = c .before in let i = w .before in part-right m _ _ _ _ _ _ e _ (i .entry-at .result) _ (i .before .read .ensures) (i .entry-at .ensures) (w .within .ensures) (c .if1 .taken))
+    (λ c m e. let w = c .before in let i = w .before in part-right m _ _ _ _ _ _ e _ (i .entry-at .result) _ (i .before .before .pre .0) (i .entry-at .ensures) (w .within .ensures) (c .if1 .taken))
     (λ c. search needs)
     (λ c κs. search needs)
     (λ c m e.
     let a = c .before in
     let w = a .before .before .before in
     let i = w .before in
-    part-bounds m _ _ _ _ _ _ e _ (i .entry-at .result) _ (i .before .read .ensures) (i .entry-at .ensures) (w .within .ensures) _ (a .sum-below .ensures) (a .before .before .if1 .left) (c .if2 .taken))
+    part-bounds m _ _ _ _ _ _ e _ (i .entry-at .result) _ (i .before .before .pre .0) (i .entry-at .ensures) (w .within .ensures) _ (a .sum-below .ensures) (a .before .before .if1 .left) (c .if2 .taken))
     (λ c κs. search needs)
     (λ c m e.
     let a = c .before .before in
     let w = a .before .before .before in
     let i = w .before in
     rw
-    (part-child m _ _ _ _ _ _ e _ (i .entry-at .result) _ (i .before .read .ensures) (i .entry-at .ensures) (w .within .ensures) _ (a .sum-below .ensures) (a .before .before .if1 .left) (c .before .if2 .left))
+    (part-child m _ _ _ _ _ _ e _ (i .entry-at .result) _ (i .before .before .pre .0) (i .entry-at .ensures) (w .within .ensures) _ (a .sum-below .ensures) (a .before .before .if1 .left) (c .before .if2 .left))
     (c .allot-child .ensures)))

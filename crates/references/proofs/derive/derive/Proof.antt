@@ -15,7 +15,7 @@ use Rattle.references.proofs.derive.derive.Tie as tie
 
 -- what the checks come to
 checked : (c : tie.After-check-derive) (r : Allotted) → c .check-derive .result ≡ r
-    → let a = c .before .before .before .before .args in
+    → let a = c .before .before .before .before .before .args in
     Allots (stateAs (a .s)) (a .table .now) r (verdictOn (length (a .memory .now)) (stateAs (a .s)) (a .table .now) (derive (a .token) (a .offset) (a .length) (a .permissions) (a .encoding)) [])
 checked c r q = rw q at (c .check-derive .ensures)
 
@@ -24,15 +24,16 @@ derive-spec =
     tie.close
     (tie.spec
     (λ c κs. search needs)
+    (λ c κs. search needs)
     (λ c. search needs)
     (λ c κs. search needs)
     (λ c. search needs)
-    (λ c κs. checked (c .before .before .before .before) _ (c .before .before .r2 .given .1))
+    (λ c κs. (c .before .before .before .before .before .before .read .ensures, checked (c .before .before .before .before) _ (c .before .before .r2 .given .1)))
     (λ c. search needs)
     (λ c. decided-stop _ _ _ _ _ _ _ (c .refused .ensures) (checked (c .before .before .before .before) _ (c .before .before .r .given .1)))
     (λ c. search needs)
     (λ c.
     let g = c .before .before in
     let r = g .before .before .before in
-    let a = r .before .before .before .before .before .before .args in
+    let a = r .before .before .before .before .before .before .before .args in
     decided-pass _ _ _ (derive (a .token) (a .offset) (a .length) (a .permissions) (a .encoding)) _ _ (g .grant-derive .ensures) (checked (r .before .before) _ (r .r2 .given .1) .0)))

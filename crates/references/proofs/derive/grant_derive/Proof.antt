@@ -10,10 +10,9 @@ pub grant-derive-spec : {M : Type 1} → statement M
 grant-derive-spec =
     tie.close
     (tie.spec
-    (λ c κs. search needs)
-    (λ c. omega (arith, derive-short _ _ _ _ _ _ _ _ (c .before .before .before .pre .0) .1 .0))
-    (λ c. omega (arith, derive-short _ _ _ _ _ _ _ _ (c .before .before .before .pre .0) .0))
-    (λ c. omega (arith, derive-short _ _ _ _ _ _ _ _ (c .before .before .before .pre .0) .1 .1))
-    (λ c κs. let s = c .before .before .before in rw (c .before .read .ensures) (derive-bears _ _ _ _ _ _ _ _ (s .pre .0) _ (s .pre .1)))
+    (λ c. omega (arith, derive-short _ _ _ _ _ _ _ _ (c .before .before .pre .1 .0) .1 .0))
+    (λ c. omega (arith, derive-short _ _ _ _ _ _ _ _ (c .before .before .pre .1 .0) .0))
+    (λ c. omega (arith, derive-short _ _ _ _ _ _ _ _ (c .before .before .pre .1 .0) .1 .1))
+    (λ c κs. let p = c .before .before .pre in rw (p .0) (derive-bears _ _ _ _ _ _ _ _ (p .1 .0) _ (p .1 .1)))
     (λ c. search needs)
-    (λ c. let g = c .before .before in derive-grants _ _ _ _ _ _ _ _ _ _ (g .before .before .read .ensures) (g .grant-child .ensures)))
+    (λ c. let g = c .before .before in derive-grants _ _ _ _ _ _ _ _ _ _ (g .before .before .before .pre .0) (g .grant-child .ensures)))

@@ -19,15 +19,15 @@ use Rattle.references.proofs.drop.check_drop.Statement.{statement}
 use Rattle.references.proofs.drop.check_drop.Tie as tie
 
 -- place 1, as the test says, and what the token comes to
-asked : (c : tie.After-settings) (b : Bool) → (c .settings .result && eqb (c .before .read .result .offset) 0) ≡ b
-    → let a = c .before .before .before .args in
+asked : (c : tie.After-settings) (b : Bool) → (c .settings .result && eqb (c .before .before .args .named .offset) 0) ≡ b
+    → let a = c .before .before .args in
     requestHolds (a .memory) (stateAs (a .s)) (a .table .now) (release (a .token)) [] ≡ b
-asked c b h = sym (drop-request _ _ _ _ _ (c .before .read .ensures)) ∙ rw (c .settings .ensures) at h
+asked c b h = sym (drop-request _ _ _ _ _ (c .before .before .pre)) ∙ rw (c .settings .ensures) at h
 
-token : (c : tie.After-reach-formed) (r : Formed) → c .reach-formed .result ≡ r
+token : (c : tie.After-forms) (r : Formed) → c .forms .result ≡ r
     → let a = c .before .before .before .before .before .before .args in
     Forms r (formedVerdict (a .memory) (a .table .now) (a .token)) (isLocked (a .table .now) (lineOf (a .memory) (a .table .now) (numberOf (a .token))))
-token c r q = rw q at (c .reach-formed .ensures)
+token c r q = rw q at (c .forms .ensures)
 
 pub check-drop-spec : {M : Type 1} → statement M
 check-drop-spec =
@@ -38,19 +38,19 @@ check-drop-spec =
     (λ c κs. search needs)
     (λ c. search needs)
     (λ c. search needs)
-    (λ c κs. let l = c .before .before .before in rw (l .before .before .before .before .read .ensures) (formed-in _ _ _ (token l _ (c .before .r2 .given .1) .0)))
+    (λ c κs. let l = c .before .before .before in rw (l .before .before .before .before .before .before .pre) (formed-in _ _ _ (token l _ (c .before .r2 .given .1) .0)))
     (λ c.
     let l = c .before .before .before in
-    token-stops _ _ _ _ _ (asked (l .before .before .before) _ (l .before .if1 .taken)) (drop-token _ _ _ _ (token l _ (c .before .r .given .1))))
+    token-stops _ _ _ _ _ (asked (l .before .before .before .before) _ (l .before .before .if1 .taken)) (drop-token _ _ _ _ (token l _ (c .before .r .given .1))))
     (λ c.
     let e = c .before .before in
     let l = e .before .before .before .before in
-    let s = l .before .before .before in
-    drop-count _ _ _ _ _ (s .before .read .ensures) (e .entry-at .result) (e .entry-at .ensures) (asked s _ (l .before .if1 .taken)) (token l _ (e .before .before .r2 .given .1) .0) (c .if2 .taken))
+    let s = l .before .before .before .before in
+    drop-count _ _ _ _ _ (s .before .before .pre) (e .entry-at .result) (e .entry-at .ensures) (asked s _ (l .before .before .if1 .taken)) (token l _ (e .before .before .r2 .given .1) .0) (c .if2 .taken))
     (λ c.
     let e = c .before .before in
     let l = e .before .before .before .before in
-    let s = l .before .before .before in
+    let s = l .before .before .before .before in
     let k = token l _ (e .before .before .r2 .given .1) in
-    (drop-pass _ _ _ _ _ (s .before .read .ensures) (e .entry-at .result) (e .entry-at .ensures) (asked s _ (l .before .if1 .taken)) (k .0) (c .if2 .left), k .1))
+    (drop-pass _ _ _ _ _ (s .before .before .pre) (e .entry-at .result) (e .entry-at .ensures) (asked s _ (l .before .before .if1 .taken)) (k .0) (c .if2 .left), k .1))
     (λ c. request-stops _ _ _ _ _ (asked (c .before .before) _ (c .if1 .left))))

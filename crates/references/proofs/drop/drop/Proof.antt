@@ -17,7 +17,7 @@ use Rattle.references.proofs.drop.drop.Tie as tie
 
 -- what the checks come to
 known : (c : tie.After-check-drop) (r : Formed) → c .check-drop .result ≡ r
-    → let a = c .before .before .before .before .args in
+    → let a = c .before .before .before .before .before .args in
     Forms r (verdictOn (length (a .memory .now)) (stateAs (a .s)) (a .table .now) (release (a .token)) []) (isLocked (a .table .now) (lineOf (length (a .memory .now)) (a .table .now) (numberOf (a .token))))
 known c r q = rw q at (c .check-drop .ensures)
 
@@ -26,10 +26,11 @@ drop-spec =
     tie.close
     (tie.spec
     (λ c κs. search needs)
+    (λ c κs. search needs)
     (λ c. search needs)
     (λ c κs. search needs)
     (λ c. search needs)
-    (λ c κs. known (c .before .before .before .before) _ (c .before .before .r2 .given .1))
+    (λ c κs. (c .before .before .before .before .before .before .read .ensures, known (c .before .before .before .before) _ (c .before .before .r2 .given .1)))
     (λ c. search needs)
     (λ c. decided-stop _ _ _ _ _ _ _ (c .refused .ensures) (known (c .before .before .before .before) _ (c .before .before .r .given .1)))
     (λ c. search needs)

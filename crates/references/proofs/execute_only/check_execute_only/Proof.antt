@@ -25,10 +25,10 @@ asked : (c : tie.After-settings) (b : Bool)
     → requestHolds (a .memory) (stateAs (a .s)) (a .table .now) (executeOnly (a .token) (a .encoding)) [] ≡ b
 asked c b h = sym (execute-request _ _ _ _ _ _ (c .before .read .ensures)) ∙ rw (c .settings .ensures) at h
 
-token : (c : tie.After-reach-live) (r : Reached) → c .reach-live .result ≡ r
+token : (c : tie.After-reach-near) (r : Reached) → c .reach-near .result ≡ r
     → let a = c .before .before .before .before .before .before .args in
     Reaches (a .table .now) r (liveVerdict (a .memory) (a .table .now) (a .token)) (lineOf (a .memory) (a .table .now) (numberOf (a .token)))
-token c r q = rw q at (c .reach-live .ensures)
+token c r q = rw q at (c .reach-near .ensures)
 
 pub check-execute-only-spec : {M : Type 1} → statement M
 check-execute-only-spec =

@@ -28,10 +28,10 @@ asked : (c : tie.After-settings) (b : Bool) → let a = c .before .before .befor
     → requestHolds (a .memory) (stateAs (a .s)) (a .table .now) (create (a .token) (a .task) (a .length) (a .user) (a .permissions) (a .encoding)) [] ≡ b
 asked c b h = sym (create-request _ _ _ _ _ _ _ _ _ _ (c .before .read .ensures) (user (c .before .before .before))) ∙ rw (c .settings .ensures) at h
 
-token : (c : tie.After-reach) (r : Reached) → c .reach .result ≡ r
-    → let a = c .before .before .before .before .before .before .args in
+token : (c : tie.After-opens) (r : Reached) → c .opens .result ≡ r
+    → let a = c .before .before .before .before .before .before .before .args in
     Reaches (a .table .now) r (reachVerdict (a .memory) (a .table .now) (a .token) (a .task)) (lineOf (a .memory) (a .table .now) (numberOf (a .token)))
-token c r q = rw q at (c .reach .ensures)
+token c r q = rw q at (c .opens .ensures)
 
 pub check-create-spec : {M : Type 1} → statement M
 check-create-spec =
@@ -40,18 +40,19 @@ check-create-spec =
     (λ c κs. search needs)
     (λ c κs. search needs)
     (λ c κs. search needs)
+    (λ c κs. search needs)
     (λ c. search needs)
     (λ c. search needs)
-    (λ c κs. let l = c .before .before in rw (l .before .before .before .before .read .ensures) (reach-in _ _ _ _ (token l _ (c .enum-told .given .1) .0)))
-    (λ c κs. let i = c .before .before .before .before in create-limits _ _ _ _ _ _ _ _ _ (asked (i .before .before) _ (i .if1 .taken)))
+    (λ c κs. let l = c .before .before in rw (l .before .before .before .before .before .read .ensures) (reach-in _ _ _ _ (token l _ (c .enum-told .given .1) .0)))
+    (λ c κs. let i = c .before .before .before .before .before in create-limits _ _ _ _ _ _ _ _ _ (asked (i .before .before) _ (i .if1 .taken)))
     (λ c.
     let l = c .before .before .before in
-    token-stops _ _ _ _ _ (asked (l .before .before .before) _ (l .before .if1 .taken)) (create-token _ _ _ _ _ _ _ _ _ (token l _ (c .before .r .given .1))))
+    token-stops _ _ _ _ _ (asked (l .before .before .before .before) _ (l .before .before .if1 .taken)) (create-token _ _ _ _ _ _ _ _ _ (token l _ (c .before .r .given .1))))
     (λ c.
     let e = c .before in
     let l = e .before .before .before in
-    let s = l .before .before .before in
+    let s = l .before .before .before .before in
     rw
-    (token-passes _ _ _ _ _ (asked s _ (l .before .if1 .taken)) (create-token _ _ _ _ _ _ _ _ _ (token l _ (e .before .enum-told .given .1) .0)))
+    (token-passes _ _ _ _ _ (asked s _ (l .before .before .if1 .taken)) (create-token _ _ _ _ _ _ _ _ _ (token l _ (e .before .enum-told .given .1) .0)))
     (c .check-cut .ensures _ _ _ _ _ (rw (s .before .read .ensures) at (e .entry-at .ensures))))
     (λ c. request-stops _ _ _ _ _ (asked (c .before .before) _ (c .if1 .left))))

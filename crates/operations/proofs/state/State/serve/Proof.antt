@@ -1,37 +1,21 @@
--- `operations::State::serve` meets its contract: each request is a step of the machine.
+-- `operations::State::serve` meets its contract: an access is a step of the machine, whatever its way, and every other request by its own method.
 -- Assumes nothing.
-use mathlib.Core.Path.{refl, ap}
+use mathlib.Core.Path.{_≡_}
 use borrow.Author.Needs.{needs}
-use Rattle.operations.specs.Turns.{requestAs}
-use Rattle.operations.proofs.TurnLaws.{load-turn, quiet-turn, revoke-turn, turned-as, write-turn}
+use Rattle.operations.specs.Turns.{Accesses}
+use Rattle.operations.specs.declared.serve.Accessing.{Accessing}
+use Rattle.operations.proofs.TurnLaws.{turn, turned-as}
 use Rattle.operations.proofs.state.State.serve.Statement.{statement}
 use Rattle.operations.proofs.state.State.serve.Tie as tie
+
+-- what is known of the way
+way : (c : tie.After-way-of) (r : Accessing) → c .way-of .result ≡ r → Accesses r (c .before .before .before .before .args .request)
+way c r q = rw q at (c .way-of .ensures)
 
 pub serve-spec : {M : Type 1} → statement M
 serve-spec =
     tie.close
     (tie.spec
-    (λ c. search needs)
-    (λ c κs. search needs)
-    (λ c. search needs)
-    (λ c κs. search needs)
-    (λ c. search needs)
-    (λ c κs. search needs)
-    (λ c. search needs)
-    (λ c κs. search needs)
-    (λ c. search needs)
-    (λ c κs. search needs)
-    (λ c. search needs)
-    (λ c κs. search needs)
-    (λ c. search needs)
-    (λ c κs. search needs)
-    (λ c. search needs)
-    (λ c κs. search needs)
-    (λ c. search needs)
-    (λ c κs. search needs)
-    (λ c. search needs)
-    (λ c κs. search needs)
-    (λ c. search needs)
     (λ c κs. search needs)
     (λ c. search needs)
     (λ c κs. search needs)
@@ -39,43 +23,13 @@ serve-spec =
     (λ c κs. search needs)
     (λ c. search needs)
     (λ c. search needs)
-    (λ c. let g = c .before .before in turned-as _ _ _ _ (g .reset .result) _ _ _ _ _ (ap requestAs (g .before .before .before .before .request .given .1)) (quiet-turn _ _ _ _ (g .reset .result) _ _ refl refl refl (g .reset .ensures)))
+    (λ c. search needs)
+    (λ c.
+    let g = c .before .before .before .before in
+    let m = g .before .before .before .before .before .before in
+    let e = g .access .ensures in
+    turned-as _ _ _ _ (g .access .result) _ _ _ _ _ (way (m .before .before) _ (m .a .given .1)) (turn _ _ _ _ _ (g .access .result) _ _ _ (e .0) (e .1 .0) (e .1 .1)))
     (λ c. search needs)
     (λ c. search needs)
     (λ c. search needs)
-    (λ c. let g = c .before .before in turned-as _ _ _ _ (g .read .result) _ _ _ _ _ (ap requestAs (g .before .before .before .before .before .request2 .given .1)) (load-turn _ _ _ _ (g .read .result) _ _ _ _ _ (λ a b. refl) (g .read .ensures .0) (g .read .ensures .1)))
-    (λ c. search needs)
-    (λ c. search needs)
-    (λ c. search needs)
-    (λ c. let g = c .before .before in turned-as _ _ _ _ (g .write .result) _ _ _ _ _ (ap requestAs (g .before .before .before .before .before .request3 .given .1)) (write-turn _ _ _ _ (g .write .result) _ _ _ _ (g .write .ensures .0) (g .write .ensures .1)))
-    (λ c. search needs)
-    (λ c. search needs)
-    (λ c. search needs)
-    (λ c. let g = c .before .before in turned-as _ _ _ _ (g .fetch .result) _ _ _ _ _ (ap requestAs (g .before .before .before .before .before .request4 .given .1)) (load-turn _ _ _ _ (g .fetch .result) _ _ _ _ _ (λ a b. refl) (g .fetch .ensures .0) (g .fetch .ensures .1)))
-    (λ c. search needs)
-    (λ c. search needs)
-    (λ c. let g = c .before .before in turned-as _ _ _ _ (g .merge .result) _ _ _ _ _ (ap requestAs (g .before .before .before .before .request5 .given .1)) (quiet-turn _ _ _ _ (g .merge .result) _ _ refl refl refl (g .merge .ensures)))
-    (λ c. search needs)
-    (λ c. search needs)
-    (λ c. let g = c .before .before in turned-as _ _ _ _ (g .derive .result) _ _ _ _ _ (ap requestAs (g .before .before .before .before .request6 .given .1)) (quiet-turn _ _ _ _ (g .derive .result) _ _ refl refl refl (g .derive .ensures)))
-    (λ c. search needs)
-    (λ c. search needs)
-    (λ c. let g = c .before .before in turned-as _ _ _ _ (g .execute-only .result) _ _ _ _ _ (ap requestAs (g .before .before .before .before .request7 .given .1)) (quiet-turn _ _ _ _ (g .execute-only .result) _ _ refl refl refl (g .execute-only .ensures)))
-    (λ c. search needs)
-    (λ c. search needs)
-    (λ c. let g = c .before .before in turned-as _ _ _ _ (g .clone .result) _ _ _ _ _ (ap requestAs (g .before .before .before .before .request8 .given .1)) (quiet-turn _ _ _ _ (g .clone .result) _ _ refl refl refl (g .clone .ensures)))
-    (λ c. search needs)
-    (λ c. search needs)
-    (λ c. let g = c .before .before in turned-as _ _ _ _ (g .drop .result) _ _ _ _ _ (ap requestAs (g .before .before .before .before .request9 .given .1)) (quiet-turn _ _ _ _ (g .drop .result) _ _ refl refl refl (g .drop .ensures)))
-    (λ c. search needs)
-    (λ c. search needs)
-    (λ c. let g = c .before .before in turned-as _ _ _ _ (g .lock .result) _ _ _ _ _ (ap requestAs (g .before .before .before .before .request10 .given .1)) (quiet-turn _ _ _ _ (g .lock .result) _ _ refl refl refl (g .lock .ensures)))
-    (λ c. search needs)
-    (λ c. search needs)
-    (λ c. let g = c .before .before in turned-as _ _ _ _ (g .unlock .result) _ _ _ _ _ (ap requestAs (g .before .before .before .before .request11 .given .1)) (quiet-turn _ _ _ _ (g .unlock .result) _ _ refl refl refl (g .unlock .ensures)))
-    (λ c. search needs)
-    (λ c. search needs)
-    (λ c. let g = c .before .before .before .before in turned-as _ _ _ _ (g .revoke .result) _ _ _ _ _ (ap requestAs (g .before .before .before .before .request12 .given .1)) (revoke-turn _ _ _ _ (g .revoke .result) _ _ _ _ (g .revoke .ensures .0) (g .revoke .ensures .1)))
-    (λ c. search needs)
-    (λ c. search needs)
-    (λ c. let g = c .before .before in turned-as _ _ _ _ (g .create .result) _ _ _ _ _ (ap requestAs (g .before .before .before .before .request13 .given .1)) (quiet-turn _ _ _ _ (g .create .result) _ _ refl refl refl (g .create .ensures))))
+    (λ c. c .before .before .before .before .before .before .operate .ensures))
