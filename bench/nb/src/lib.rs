@@ -8,7 +8,9 @@ pub mod commands;
 pub mod files;
 pub mod map;
 pub mod outcome;
+pub mod page;
 pub mod report;
+pub mod stop;
 pub mod stored;
 pub mod style;
 

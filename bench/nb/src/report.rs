@@ -77,7 +77,7 @@ pub fn write_played(
     style: Style,
     out: &mut dyn Write,
 ) -> io::Result<()> {
-    let request = shortened(&print_request(ask));
+    let request = request_text(ask, WIDE);
     let line = ask.line;
     match played {
         Ok(played) => {
@@ -97,19 +97,25 @@ pub fn write_played(
 }
 
 fn write_difference(one: &Difference, style: Style, out: &mut dyn Write) -> io::Result<()> {
-    let Difference { what, expected, given } = one;
-    let text = match what.as_str() {
-        "what stands" => format!("expected = {expected}\n        !    given = {given}"),
-        _ => format!("{what}: expected {expected}, given {given}"),
-    };
+    let text = difference_text(one, "        ! ");
     writeln!(out, "        {}", style.wrong(&format!("! {text}")))
 }
 
-/// One line of at most a certain width.
-fn shortened(request: &str) -> String {
+/// What was expected and what was given; of what stands on two lines, the second behind a lead.
+pub fn difference_text(one: &Difference, lead: &str) -> String {
+    let Difference { what, expected, given } = one;
+    match what.as_str() {
+        "what stands" => format!("expected = {expected}\n{lead}   given = {given}"),
+        _ => format!("{what}: expected {expected}, given {given}"),
+    }
+}
+
+/// A request on one line of at most a certain width.
+pub fn request_text(ask: &Ask, wide: usize) -> String {
+    let request = print_request(ask);
     let line = request.replace("\\\n", "").split_whitespace().collect::<Vec<&str>>().join(" ");
-    match line.char_indices().nth(WIDE - 3) {
-        Some((at, _)) if line.chars().count() > WIDE => format!("{}...", &line[..at]),
+    match line.char_indices().nth(wide - 3) {
+        Some((at, _)) if line.chars().count() > wide => format!("{}...", &line[..at]),
         _ => line,
     }
 }

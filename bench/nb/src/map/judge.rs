@@ -16,10 +16,23 @@ pub enum Judged {
 pub enum Link {
     /// To this parent, and from there to an owner.
     Alive { parent: usize },
-    /// Nowhere, for this reason.
-    Dead(String),
-    /// To an ill-formed entry.
-    IllFormed(String),
+    /// Nowhere: the entry `at` holds a link that does not hold.
+    Dead { at: usize, reason: String },
+    /// To an ill-formed entry, `at`.
+    IllFormed { at: usize, reason: String },
+}
+
+impl Judged {
+    /// Why it has no place in memory.
+    pub fn reason(&self) -> Option<&str> {
+        match self {
+            Judged::IllFormed(reason) => Some(reason),
+            Judged::Indirect(Link::Dead { reason, .. } | Link::IllFormed { reason, .. }) => {
+                Some(reason)
+            }
+            _ => None,
+        }
+    }
 }
 
 /// Every entry of a table, judged.
@@ -44,7 +57,7 @@ fn alone(entry: &Entry, memory: usize) -> Judged {
         (entry::FREE, _) => Judged::Free,
         (_, Some(fault)) => Judged::IllFormed(fault),
         (entry::DIRECT, _) => Judged::Direct,
-        _ => Judged::Indirect(Link::Dead(String::new())),
+        _ => Judged::Indirect(Link::Dead { at: 0, reason: String::new() }),
     }
 }
 
@@ -73,28 +86,34 @@ fn fault(entry: &Entry, memory: usize) -> Option<&'static str> {
 /// Judges a link; the parent's own line was judged before if its nonce is lower.
 fn link(entries: &[Entry], judged: &[Judged], number: usize) -> Link {
     let child = &entries[number];
+    let dead = |reason| Link::Dead { at: number, reason };
     let parent = Token::unpack(child.field(Field::Parent));
     let at = usize::try_from(parent.number).unwrap_or(usize::MAX);
     let Some(above) = entries.get(at) else {
-        return Link::Dead(format!("its parent #{} is beyond the table", parent.number));
+        return dead(format!("its parent #{} is beyond the table", parent.number));
     };
     let (tag, nonce) = (above.get(entry::TAG), above.get(entry::NONCE));
     if judged[at] == Judged::Free {
-        return Link::Dead(format!("its parent #{at} is free"));
+        return dead(format!("its parent #{at} is free"));
     }
     if tag != parent.tag {
         let wanted = parent.tag;
-        return Link::Dead(format!("its parent #{at} holds tag {tag:#06x}, not {wanted:#06x}"));
+        return dead(format!("its parent #{at} holds tag {tag:#06x}, not {wanted:#06x}"));
     }
     let own = child.get(entry::NONCE);
     if nonce >= own {
-        return Link::Dead(format!("its parent #{at} has nonce {nonce}, which is not below {own}"));
+        return dead(format!("its parent #{at} has nonce {nonce}, which is not below {own}"));
     }
     match &judged[at] {
-        Judged::IllFormed(_) => Link::IllFormed(format!("its parent #{at} is ill-formed")),
-        Judged::Indirect(Link::Dead(_)) => Link::Dead(format!("its parent #{at} is dead")),
-        Judged::Indirect(Link::IllFormed(_)) => {
-            Link::IllFormed(format!("its parent #{at} leads to an ill-formed entry"))
+        Judged::IllFormed(_) => {
+            Link::IllFormed { at, reason: format!("its parent #{at} is ill-formed") }
+        }
+        Judged::Indirect(Link::Dead { at: end, .. }) => {
+            Link::Dead { at: *end, reason: format!("its parent #{at} is dead") }
+        }
+        Judged::Indirect(Link::IllFormed { at: end, .. }) => {
+            let reason = format!("its parent #{at} leads to an ill-formed entry");
+            Link::IllFormed { at: *end, reason }
         }
         _ => Link::Alive { parent: at },
     }
