@@ -1,5 +1,6 @@
 //! A simulator ends with `nb`, however `nb` ends.
 
+use std::os::unix::process::CommandExt;
 use std::path::{Path, PathBuf};
 use std::process::{Child, Command, Stdio};
 use std::thread::sleep;
@@ -14,7 +15,12 @@ const TERMINATE: i32 = 15;
 
 extern "C" {
     fn kill(process: i32, signal: i32) -> i32;
+    #[link_name = "signal"]
+    fn on_signal(number: i32, action: usize) -> usize;
 }
+
+/// What a process does by itself at a signal.
+const DEFAULT: usize = 0;
 
 /// Sends a signal to a process that this test started, or asks with 0 whether it is there.
 fn signal(process: i32, number: i32) -> bool {
@@ -51,7 +57,28 @@ fn number(file: &Path) -> Option<i32> {
 fn compare(command: &str) -> Child {
     let mut tool = Command::new(NB);
     tool.args(["compare", "--wait", "1000", "--against", command]);
-    tool.stdin(Stdio::null()).stdout(Stdio::null()).stderr(Stdio::null()).spawn().expect("nb")
+    tool.stdin(Stdio::null()).stdout(Stdio::null()).stderr(Stdio::null());
+    // A job in the background ignores interrupts, and so would what it starts. Nothing but the call is
+    // done between fork and exec.
+    unsafe {
+        tool.pre_exec(|| {
+            on_signal(INTERRUPT, DEFAULT);
+            Ok(())
+        });
+    }
+    tool.spawn().expect("nb")
+}
+
+/// Waits until a process has ended, but not for ever.
+fn ended(child: &mut Child) -> bool {
+    let ended = (0..2_000).any(|_| {
+        sleep(Duration::from_millis(10));
+        child.try_wait().expect("a child").is_some()
+    });
+    if !ended {
+        child.kill().and_then(|()| child.wait()).expect("a child that is ended");
+    }
+    ended
 }
 
 /// Ends `nb` by a signal while a simulator neither answers nor looks at its input.
@@ -62,7 +89,7 @@ fn ends_with_nb(test: &str, ending: i32, command: impl Fn(&str) -> String) {
     let simulator = until(|| number(&file)).expect("the simulator's number");
     assert!(runs(simulator), "it runs");
     assert!(signal(tool.id() as i32, ending), "nb runs");
-    tool.wait().expect("nb has ended");
+    assert!(ended(&mut tool), "nb has not ended");
     let gone = until(|| (!runs(simulator)).then_some(()));
     let _ = fs::remove_file(&file);
     if gone.is_none() {
