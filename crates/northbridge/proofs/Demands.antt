@@ -1,7 +1,6 @@
 -- Demands 1 and 2 of the exported function.
 -- Assumes nothing.
 use mathlib.Core.Path.{_≡_, refl, sym, ap, subst, _∙_}
-use mathlib.Core.Logic.{_≢_}
 use lib.ListN.{length}
 use borrow.Author.Tests.{ne-eqb}
 use Rattle.machine.specs.Lent.{AllBytes}
@@ -11,39 +10,35 @@ use Rattle.machine.specs.Steps.{Machine, run, step}
 use Rattle.machine.specs.Stops.{atRequest}
 use Rattle.machine.proofs.Decided.{tells}
 use Rattle.machine.proofs.Refused.{refused-keeps, refused-tells}
-use Rattle.northbridge.specs.Demands.{after, asks, Brought, call, callOf, Demand1, Demand2, machine, Refusal, Standing}
-use Rattle.northbridge.specs.Exported.{answerSize, Asked, carried, Exported, known, served, told, unknown}
+use Rattle.northbridge.specs.Demands.{after, asks, Brought, callOf, Demand1, Demand2, machine, Safe, Standing}
+use Rattle.northbridge.specs.Exported.{answerSize, Asked, carried, known, served, told, unknown}
 use Rattle.northbridge.proofs.CallLaws.{known-sizes}
 use Rattle.northbridge.proofs.Listed.{called-as, requested-alone, state-kept, tracks, Whole, whole-bytes}
 
 -- ---- demand 1
 
--- what is asked of a call, of what it left and returned
-abbrev SafeAs : Standing → Brought → Exported → Type 0
-SafeAs κ q x =
-    (x .result ≢ 0 → _≡_ {A = Standing} (record { state = x .state; table = x .table; memory = x .memory }) κ)
-    × (x .result ≢ 0 → x .buffer ≡ q .buffer)
-    × (x .result ≢ 0 → Refusal (q .answer) (x .result) (x .answer))
-    × (length (q .answer) ≢ answerSize → x .answer ≡ q .answer)
-
-safe-as : (κ : Standing) → AllBytes (κ .state) → (q : Brought) (k : Asked) → asks κ q ≡ k → SafeAs κ q (carried k (κ .state) (κ .table) (κ .memory) (q .buffer) (q .answer))
+safe-as : (κ : Standing) → AllBytes (κ .state) → (q : Brought) (k : Asked) → asks κ q ≡ k → Safe κ q (carried k (κ .state) (κ .table) (κ .memory) (q .buffer) (q .answer))
 unfolding told
 safe-as κ h q (known r) e =
     let σ : Machine = machine κ in
     let c : Call = callOf r q in
-    let sizes = known-sizes (q .request) (κ .state) (q .answer) r (sym e) in (
-      λ no. let kept = refused-keeps σ c no in rw (kept .machine, state-kept (κ .state) h (sizes .0)),
-      λ no. refused-keeps σ c no .buffer,
-      λ no. let kept = refused-keeps σ c no in record { place = steps.answer σ c .reply .bad; told = refused-tells σ c no; bytes = λ m. rw (kept .tokens, kept .dropped) },
-      λ no. absurd (no (sizes .1)),
-    )
-safe-as κ h q unknown e = (λ no. refl, λ no. refl, λ no. record { place = 0; told = tells atRequest; bytes = λ m. rw m }, λ no. rw (ne-eqb (length (q .answer)) answerSize no))
+    let sizes = known-sizes (q .request) (κ .state) (q .answer) r (sym e) in
+    record {
+      same = λ no. let kept = refused-keeps σ c no in rw (kept .machine, state-kept (κ .state) h (sizes .0));
+      buffer = λ no. refused-keeps σ c no .buffer;
+      answer = λ no. let kept = refused-keeps σ c no in record { place = steps.answer σ c .reply .bad; told = refused-tells σ c no; bytes = λ m. rw (kept .tokens, kept .dropped) };
+      unsized = λ no. absurd (no (sizes .1));
+    }
+safe-as κ h q unknown e = record {
+  same = λ no. refl;
+  buffer = λ no. refl;
+  answer = λ no. record { place = 0; told = tells atRequest; bytes = λ m. rw m };
+  unsized = λ no. rw (ne-eqb (length (q .answer)) answerSize no);
+}
 
 pub demand1 : Demand1
 unfolding Demand1
-demand1 κ h q =
-    let s : SafeAs κ q (call κ q) = subst (SafeAs κ q) (sym (called-as κ q (asks κ q) refl)) (safe-as κ h q (asks κ q) refl) in
-    record { same = s .0; buffer = s .1; answer = s .2; unsized = s .3 }
+demand1 κ h q = subst (Safe κ q) (sym (called-as κ q (asks κ q) refl)) (safe-as κ h q (asks κ q) refl)
 
 -- ---- demand 2
 

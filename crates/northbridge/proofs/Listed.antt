@@ -20,7 +20,7 @@ use Rattle.machine.specs.Rows.{row}
 use Rattle.machine.specs.Steps as steps
 use Rattle.machine.specs.Steps.{Machine, run, step}
 use Rattle.machine.proofs.Settled.{keys, KeysFit, none, StateFits, words-stay}
-use Rattle.northbridge.specs.Demands.{after, asks, Brought, Bytes, call, callOf, joined, machine, next, requested, Standing}
+use Rattle.northbridge.specs.Demands.{after, asks, Brought, Bytes, call, callOf, joined, leftBy, machine, next, requested, Standing}
 use Rattle.northbridge.specs.Exported.{Asked, asked, carried, Exported, exported, known, picked, requests, served, stateBytes, stateOf, stateSize, unknown}
 use Rattle.northbridge.proofs.CallLaws.{request-sized}
 use Rattle.northbridge.proofs.WordLaws.{length-word-bytes, word-lt, word-of, words-kept}
@@ -119,9 +119,6 @@ keys-fit κ q r b h = go r (kind-of κ q r h)
 
 -- ---- a call
 
-abbrev stood : Exported → Standing
-stood x = record { state = x .state; table = x .table; memory = x .memory }
-
 pub called-as : (κ : Standing) (q : Brought) (k : Asked) → asks κ q ≡ k → call κ q ≡ carried k (κ .state) (κ .table) (κ .memory) (q .buffer) (q .answer)
 unfolding exported
 called-as κ q k h = ap (λ (k : Asked). carried k (κ .state) (κ .table) (κ .memory) (q .buffer) (q .answer)) h
@@ -138,7 +135,7 @@ steps-to κ q r w b h =
     let is : call κ q ≡ served (step σ c) (steps.answer σ c) = called-as κ q (known r) h in
     let fits : StateFits (step σ c .state) = words-stay σ c (keys-fit κ q r b h) (w .fits) in (
       rw is (ap (λ (s : State). record { state = s; table = step σ c .table; memory = step σ c .memory }) (state-back (step σ c .state) fits)),
-      subst (λ (x : Exported). Whole (stood x)) (sym is) (whole-state (step σ c .state) (step σ c .table) (step σ c .memory) fits),
+      subst (λ (x : Exported). Whole (leftBy x)) (sym is) (whole-state (step σ c .state) (step σ c .table) (step σ c .memory) fits),
     )
 
 moves : (κ : Standing) (q : Brought) → Whole κ → AllBytes (q .request) → Left κ q (ask q)
@@ -146,7 +143,7 @@ moves κ q w b = go (ask q) (asks-alone κ q (w .sized))
   where
     go : (k : Asked) → asks κ q ≡ k → Left κ q k
     go (known r) h = let m = steps-to κ q r w b h in stepped r h (m .0) (m .1)
-    go unknown h = stayed h (ap stood (called-as κ q unknown h))
+    go unknown h = stayed h (ap leftBy (called-as κ q unknown h))
 
 -- ---- lists
 

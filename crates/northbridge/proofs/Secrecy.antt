@@ -23,7 +23,7 @@ use Rattle.machine.specs.Writes.{Name}
 use Rattle.machine.proofs.Decided.{accepted, away, taken, Turned, turned}
 use Rattle.machine.proofs.Given.{given}
 use Rattle.machine.proofs.Theorem.{demand3}
-use Rattle.northbridge.specs.Demands.{after, asks, Back, back, backs, Brought, Bytes, call, callOf, Copies, Demand3, FirstRevoke, givenBy, givenIn, gives, joined, machine, Never, next, rootIn, Secret, Shut, Standing, tokensIn, Without}
+use Rattle.northbridge.specs.Demands.{after, asks, Back, backBy, backs, Brought, Bytes, call, callOf, Copies, Demand3, FirstRevoke, givenBy, givenIn, gives, joined, machine, Never, next, rootIn, Secret, Shut, Standing, tokensIn, Without}
 use Rattle.northbridge.specs.Exported.{answerBytes, Asked, carried, Exported, known, stateBytes, stateOf, told, unknown, wordBytes}
 use Rattle.northbridge.proofs.CallLaws.{known-sizes}
 use Rattle.northbridge.proofs.Listed.{ask, asks-alone, by-calls, bytes-append, bytes-parts, called-as, first, Kind, kind-of, other, requests-append, requestsOf, steps-to, Tracked, tracks, Whole, whole-bytes}
@@ -118,13 +118,10 @@ handed-list =
     by-calls (λ κ qs cs. backs κ qs ≡ allHanded qs (answers (machine κ) cs)) (λ κ w. refl)
     (λ κ q r qs cs w h m t.
     let k : ask q ≡ known r = sym (asks-alone κ q (w .sized)) ∙ h in
-    rw k (ap₂ _∷_ (ap handedBack (called-as κ q (known r) h)) (t ∙ ap (λ (σ : Machine). allHanded qs (answers σ cs)) m)))
+    rw k (ap₂ _∷_ (ap backBy (called-as κ q (known r) h)) (t ∙ ap (λ (σ : Machine). allHanded qs (answers σ cs)) m)))
     (λ κ q qs cs w h m t.
     let k : ask q ≡ unknown = sym (asks-alone κ q (w .sized)) ∙ h in
-    rw k (ap₂ _∷_ (ap handedBack (called-as κ q unknown h)) (t ∙ ap (λ (κ : Standing). allHanded qs (answers (machine κ) cs)) m)))
-  where
-    handedBack : Exported → Back
-    handedBack x = record { result = x .result; buffer = x .buffer; answer = x .answer }
+    rw k (ap₂ _∷_ (ap backBy (called-as κ q unknown h)) (t ∙ ap (λ (κ : Standing). allHanded qs (answers (machine κ) cs)) m)))
 
 -- where no call is granted a request of which P holds, no request of them is such a one
 module _ (P : Request → Type 0) (U : Machine → List Call → Type 0) (nil : (σ : Machine) → U σ [])

@@ -46,11 +46,18 @@ pub record Back : Type 0 where
 abbrev pub call : Standing → Brought → Exported
 call κ q = exported (q .request) (κ .state) (κ .table) (κ .memory) (q .buffer) (q .answer)
 
+-- what a call left standing, and what it handed back
+abbrev pub leftBy : Exported → Standing
+leftBy x = record { state = x .state; table = x .table; memory = x .memory }
+
+abbrev pub backBy : Exported → Back
+backBy x = record { result = x .result; buffer = x .buffer; answer = x .answer }
+
 abbrev pub next : Standing → Brought → Standing
-next κ q = record { state = call κ q .state; table = call κ q .table; memory = call κ q .memory }
+next κ q = leftBy (call κ q)
 
 abbrev pub back : Standing → Brought → Back
-back κ q = record { result = call κ q .result; buffer = call κ q .buffer; answer = call κ q .answer }
+back κ q = backBy (call κ q)
 
 -- one call after the other
 abbrev pub after : Standing → List Brought → Standing
@@ -79,15 +86,16 @@ pub record Refusal (brought : List ℕ) (result : ℕ) (answer : List ℕ) : Typ
   pub told : Told result place
   pub bytes : length brought ≡ answerSize → answer ≡ wordBytes (result ∷ place ∷ 0 ∷ 0 ∷ 0 ∷ [])
 
-pub record Safe (κ : Standing) (q : Brought) : Type 0 where
-  pub same : call κ q .result ≢ 0 → next κ q ≡ κ
-  pub buffer : call κ q .result ≢ 0 → back κ q .buffer ≡ q .buffer
-  pub answer : call κ q .result ≢ 0 → Refusal (q .answer) (call κ q .result) (back κ q .answer)
+-- of a call over κ that brought q, and came to x
+pub record Safe (κ : Standing) (q : Brought) (x : Exported) : Type 0 where
+  pub same : x .result ≢ 0 → leftBy x ≡ κ
+  pub buffer : x .result ≢ 0 → x .buffer ≡ q .buffer
+  pub answer : x .result ≢ 0 → Refusal (q .answer) (x .result) (x .answer)
   -- an answer of another size keeps its bytes
-  pub unsized : length (q .answer) ≢ answerSize → back κ q .answer ≡ q .answer
+  pub unsized : length (q .answer) ≢ answerSize → x .answer ≡ q .answer
 
 unfoldable pub Demand1 : Type 0
-Demand1 = (κ : Standing) → AllBytes (κ .state) → (q : Brought) → Safe κ q
+Demand1 = (κ : Standing) → AllBytes (κ .state) → (q : Brought) → Safe κ q (call κ q)
 
 -- ---- demand 2: "Every answer, table byte, memory byte and counter equals what the published Northcape operations say, as document 01 fixes them". A list of
 -- calls is the list of the requests that they ask, from one machine on: nothing is lost in the state's bytes. (That what is packed unpacks again is
