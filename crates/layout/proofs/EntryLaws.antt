@@ -12,7 +12,7 @@ use lib.Dec.{eqb, lit<, ltb}
 use lib.ListN.{getD, drop}
 use borrow.Author.Tests.{ltb-true}
 use Rattle.bits.specs.Fields.{bits, pack, unpack, Fit}
-use Rattle.layout.specs.Entry.{direct, free, indirect, wordWidths, wordList, wordsNumber, bit, endWidths, endFields, endFrom, directWidths, directFields, directNumber, directFrom, directOf, indirectWidths, indirectFields, indirectNumber, indirectFrom, indirectOf, typeOf, packAs, unpackAs, entryNumber, entryOf, packable, recounted, relocked, Fits, Storable, isFree, isDirect, isIndirect}
+use Rattle.layout.specs.Entry.{direct, free, indirect, wordWidths, wordList, wordsNumber, bit, endWidths, endFields, endFrom, directWidths, directFields, directNumber, directFrom, directOf, indirectWidths, indirectFields, indirectNumber, indirectFrom, indirectOf, typeOf, packAs, unpackAs, entryNumber, entryOf, packable, recounted, relocked, Fits, Laid, laidDirect, laidIndirect, Storable, isFree, isDirect, isIndirect}
 use Rattle.layout.specs.declared.entry.Words.{Words}
 use Rattle.layout.specs.declared.entry.Entry.{Entry}
 use Rattle.bits.proofs.FieldLaws.{pack-lt, unpack-pack, pack-unpack, unpack-fit, regroup-pack, regroup-unpack, cut, groups}
@@ -185,6 +185,10 @@ pack-other (suc (suc (suc k))) e a b = refl
 
 -- ---- what was packed is read again
 
+bit-lt : (b : Bool) → bit b < 2
+bit-lt true = omega arith
+bit-lt false = omega arith
+
 bit-eqb : (b : Bool) → eqb (bit b) 1 ≡ b
 bit-eqb true = refl
 bit-eqb false = refl
@@ -206,6 +210,19 @@ round e (isIndirect k h u f) =
     let type : typeOf n ≡ 2 = ap (λ l. getD l 0 0) (unpack-pack indirectWidths (indirectFields e) f) in
     let same : indirectFrom (indirectFields e) ≡ e = λ i. record { kind = sym k i; base = e .base; length = e .length; count = e .count; holder = sym h i; user = sym u i; parent = e .parent; zeros = e .zeros; permissions = e .permissions; locked = bit-eqb (e .locked) i; lockable = bit-eqb (e .lockable) i; cow = bit-eqb (e .cow) i; tag = e .tag; nonce = e .nonce } in
     ap entryOf (number-as e k) ∙ entry-as n type ∙ read-as indirectWidths (indirectFields e) indirectFrom e f same
+
+-- the words of an entry as it is issued are read as that entry
+pub direct-issued : (b l u p : ℕ) (k : Bool) → b < 2 ^ 32 → l < 2 ^ 32 → u < 2 ^ 64 → p < 8 → {n : ℕ} → n ≡ directNumber (direct b l u p k 0 0) → entryOf n ≡ direct b l u p k 0 0
+direct-issued b l u p k hb hl hu hp q =
+    let e : Entry = direct b l u p k 0 0 in
+    let fit : Fit directWidths (directFields e) = (lit< tt, (hb, (hl, (lit< tt, (lit< tt, (hu, (hp, (lit< tt, (bit-lt k, (lit< tt, (lit< tt, (lit< tt, tt)))))))))))) in
+    ap entryOf (q ∙ sym (number-as e refl)) ∙ round e (isDirect refl refl refl fit)
+
+pub indirect-issued : (b l t p : ℕ) → b < 2 ^ 32 → l < 2 ^ 32 → t < 2 ^ 64 → p < 8 → {n : ℕ} → n ≡ indirectNumber (indirect b l t p 0 0) → entryOf n ≡ indirect b l t p 0 0
+indirect-issued b l t p hb hl ht hp q =
+    let e : Entry = indirect b l t p 0 0 in
+    let fit : Fit indirectWidths (indirectFields e) = (lit< tt, (hb, (ht, (hl, (lit< tt, (lit< tt, (hp, (lit< tt, (lit< tt, (lit< tt, (lit< tt, (lit< tt, tt)))))))))))) in
+    ap entryOf (q ∙ sym (number-as e refl)) ∙ round e (isIndirect refl refl refl fit)
 
 pub number-lt : (e : Entry) → Storable e → entryNumber e < 2 ^ 256
 unfolding entryNumber directNumber indirectNumber
@@ -233,24 +250,36 @@ indirect-fields : (n : ℕ) → typeOf n ≡ 2 → indirectFields (indirectOf n)
 unfolding indirectOf
 indirect-fields n t = rw t (ap (λ l. 2 ∷ indirectOf n .base ∷ indirectOf n .parent ∷ indirectOf n .length ∷ indirectOf n .count ∷ indirectOf n .zeros ∷ l) (end-back 2 n))
 
--- the type is one that has a layout
-pub data Laid (k : ℕ) : Type 0 where
-  one : k ≡ 1 → Laid k
-  two : k ≡ 2 → Laid k
-
 -- fields that were read of a number pack to it
 pack-as : (ws fs : List ℕ) (n : ℕ) → n < 2 ^ bits ws → fs ≡ unpack ws n → pack ws fs ≡ n
 pack-as ws fs n l h = ap (pack ws) h ∙ pack-unpack ws n ∙ mod-eq-of-lt l
 
 pub back : (n : ℕ) → n < 2 ^ 256 → Laid (typeOf n) → entryNumber (entryOf n) ≡ n
 unfolding directNumber indirectNumber directOf indirectOf
-back n l (one t) = ap entryNumber (entry-as n t) ∙ number-as (directOf n) refl ∙ pack-as directWidths (directFields (directOf n)) n l (direct-fields n t)
-back n l (two t) = ap entryNumber (entry-as n t) ∙ number-as (indirectOf n) refl ∙ pack-as indirectWidths (indirectFields (indirectOf n)) n l (indirect-fields n t)
+back n l (laidDirect t) = ap entryNumber (entry-as n t) ∙ number-as (directOf n) refl ∙ pack-as directWidths (directFields (directOf n)) n l (direct-fields n t)
+back n l (laidIndirect t) = ap entryNumber (entry-as n t) ∙ number-as (indirectOf n) refl ∙ pack-as indirectWidths (indirectFields (indirectOf n)) n l (indirect-fields n t)
+
+-- tag and nonce of what is read fit
+pub read-small : (n : ℕ) → (entryOf n .tag < 2 ^ 16) × (entryOf n .nonce < 2 ^ 32)
+unfolding entryOf directOf indirectOf
+read-small n = go (typeOf n)
+  where
+    go : (k : ℕ) → (unpackAs k n .tag < 2 ^ 16) × (unpackAs k n .nonce < 2 ^ 32)
+    go zero = (unpack-fit endWidths n .1 .1 .1 .1 .0, unpack-fit endWidths n .1 .1 .1 .1 .1 .0)
+    go (suc zero) = (unpack-fit endWidths n .1 .1 .1 .1 .0, unpack-fit endWidths n .1 .1 .1 .1 .1 .0)
+    go (suc (suc zero)) = (unpack-fit endWidths n .1 .1 .1 .1 .0, unpack-fit endWidths n .1 .1 .1 .1 .1 .0)
+    go (suc (suc (suc k))) = (unpack-fit endWidths n .1 .1 .1 .1 .0, unpack-fit endWidths n .1 .1 .1 .1 .1 .0)
 
 -- the words of an entry with a layout are those of what is read of them
 words-back : (w : Words) {e : Entry} → Fit wordWidths (wordList w) → Laid (w .a / 2 ^ 61) → e ≡ entryOf (wordsNumber w) → wordsNumber w ≡ entryNumber e
 unfolding wordsNumber
 words-back w h k q = sym (ap entryNumber q ∙ back (wordsNumber w) (pack-lt wordWidths (wordList w) h) (subst Laid (sym (type-read w h)) k))
+
+-- the same, by the type that is read
+pub laid-words : (w : Words) {e : Entry} → Fit wordWidths (wordList w) → Laid (e .kind) → entryOf (wordsNumber w) ≡ e → wordsNumber w ≡ entryNumber e
+laid-words w h k q =
+    let read : Laid (w .a / 2 ^ 61) = subst Laid (sym (ap (λ (e : Entry). e .kind) (shared-read w h ∙ ap shared q))) k in
+    words-back w h read (sym q)
 
 -- the words with another count
 record Counted (x y k : ℕ) : Type 0 where
@@ -279,7 +308,7 @@ module _ (w : Words) (k x : ℕ) (f : Fit wordWidths (wordList w)) (hx : x < 2 ^
       let z = counted x (w .b) k hx (f .1 .0) hk q in
       let m : Entry = endFrom 1 (unpack endWidths (w .d)) in
       let same : recounted (directRead w m) k ≡ directRead v m = rw (z .above, z .count, z .below) in
-      words-back v g (one t) (ap (λ (e : Entry). recounted e k) (sym (direct-at w f t)) ∙ same ∙ direct-at v g t)
+      words-back v g (laidDirect t) (ap (λ (e : Entry). recounted e k) (sym (direct-at w f t)) ∙ same ∙ direct-at v g t)
 
   pub recount-indirect : w .a / 2 ^ 61 ≡ 2 → x ≡ pack (3 ∷ 16 ∷ 45 ∷ []) (w .c / 2 ^ 61 ∷ k ∷ w .c % 2 ^ 45 ∷ [])
       → wordsNumber (record { a = w .a; b = w .b; c = x; d = w .d }) ≡ entryNumber (recounted (entryOf (wordsNumber w)) k)
@@ -290,17 +319,13 @@ module _ (w : Words) (k x : ℕ) (f : Fit wordWidths (wordList w)) (hx : x < 2 ^
       let z = counted x (w .c) k hx (f .1 .1 .0) hk q in
       let m : Entry = endFrom 2 (unpack endWidths (w .d)) in
       let same : recounted (indirectRead w m) k ≡ indirectRead v m = rw (z .above, z .count, z .below) in
-      words-back v g (two t) (ap (λ (e : Entry). recounted e k) (sym (indirect-at w f t)) ∙ same ∙ indirect-at v g t)
+      words-back v g (laidIndirect t) (ap (λ (e : Entry). recounted e k) (sym (indirect-at w f t)) ∙ same ∙ indirect-at v g t)
 
 -- a type with no layout is written as a free entry, whatever its fields
 pub other-words : (w : Words) (e : Entry) {x : ℕ} → Fit wordWidths (wordList w) → (w .a / 2 ^ 61 ≡ 1 → ⊥) → (w .a / 2 ^ 61 ≡ 2 → ⊥) → e .kind ≡ entryOf (wordsNumber w) .kind → x ≡ entryNumber free → x ≡ entryNumber e
 unfolding entryNumber
 other-words w e f a b k q =
     q ∙ sym (number-as e (k ∙ sym (ap (λ (y : Entry). y .kind) (shared-read w f))) ∙ pack-other (w .a / 2 ^ 61) e a b)
-
-bit-lt : (b : Bool) → bit b < 2
-bit-lt true = omega arith
-bit-lt false = omega arith
 
 -- the last word around one bit, and all its fields
 last-sum : (u p b k c g n : ℕ) → pack (13 ∷ 1 ∷ 50 ∷ []) ((u * 8 + p) ∷ b ∷ (k * 2 ^ 49 + (c * 2 ^ 48 + (g * 2 ^ 32 + n))) ∷ []) ≡ pack (10 ∷ endWidths) (u ∷ p ∷ b ∷ k ∷ c ∷ g ∷ n ∷ [])
@@ -355,7 +380,7 @@ module _ (w : Words) (l : Bool) (h x y z : ℕ) (f : Fit wordWidths (wordList w)
       let c2 : y % 2 ^ 54 ≡ w .c % 2 ^ 54 = ap (λ (n : ℕ). n % 2 ^ 54) (sym (div-one y)) ∙ ap (λ n. getD n 1 0) cs in
       let whole : h / 1024 * 1024 + h % 1024 ≡ h = omega arith in
       let same : relocked (directRead w m) l h ≡ directRead v (ending 1) = rw (b1, b2, b3, c1, c2, above, whole) in
-      words-back v g (one t) (ap (λ (e : Entry). relocked e l h) (sym (direct-at w f t)) ∙ same ∙ ap (directRead v) (sym (ended 1)) ∙ direct-at v g t)
+      words-back v g (laidDirect t) (ap (λ (e : Entry). relocked e l h) (sym (direct-at w f t)) ∙ same ∙ ap (directRead v) (sym (ended 1)) ∙ direct-at v g t)
 
   pub relock-indirect : w .a / 2 ^ 61 ≡ 2 → wordsNumber (record { a = w .a; b = w .b; c = w .c; d = z }) ≡ entryNumber (relocked (entryOf (wordsNumber w)) l h)
   unfolding indirectRead indirectNumber
@@ -365,7 +390,7 @@ module _ (w : Words) (l : Bool) (h x y z : ℕ) (f : Fit wordWidths (wordList w)
       let e : Entry = relocked (indirectRead w (endFrom 2 (unpack endWidths (w .d)))) l h in
       let e′ : Entry = indirectRead v (endFrom 2 (unpack endWidths z)) in
       let same : indirectFields (indirectRead v (ending 2)) ≡ indirectFields e = rw above in
-      words-back v g (two t) (indirect-at v g t)
+      words-back v g (laidIndirect t) (indirect-at v g t)
       ∙ number-as e′ refl
       ∙ ap (pack indirectWidths) (ap (λ (o : Entry). indirectFields (indirectRead v o)) (ended 2) ∙ same)
       ∙ sym (number-as e refl)
@@ -374,9 +399,9 @@ module _ (w : Words) (l : Bool) (h x y z : ℕ) (f : Fit wordWidths (wordList w)
 -- and can be packed with nothing lost
 pub read-storable : (n : ℕ) → Laid (typeOf n) → Storable (entryOf n)
 unfolding directOf indirectOf
-read-storable n (one t) =
+read-storable n (laidDirect t) =
     subst Storable (sym (entry-as n t)) (isDirect refl refl refl (subst (Fit directWidths) (sym (direct-fields n t)) (unpack-fit directWidths n)))
-read-storable n (two t) =
+read-storable n (laidIndirect t) =
     subst Storable (sym (entry-as n t)) (isIndirect refl refl refl (subst (Fit indirectWidths) (sym (indirect-fields n t)) (unpack-fit indirectWidths n)))
 
 -- the test is the condition

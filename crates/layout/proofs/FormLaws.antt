@@ -7,12 +7,12 @@ use Prim.Native.Nat.{ℕ, zero, suc}
 use native.Mathlib.Omega.{arith}
 use lib.ListN.{replicate}
 use Rattle.bits.specs.Bytes.{bytes, number}
-use Rattle.layout.specs.Entry.{directOf, entryAt, entryBytes, entryNumber, entryOf, free, indirectOf, Storable, typeOf, unpackAs}
+use Rattle.layout.specs.Entry.{directOf, entryAt, entryBytes, entryNumber, entryOf, free, indirectOf, Laid, laidDirect, laidIndirect, Storable, typeOf, unpackAs}
 use Rattle.bits.specs.Fields.{Fit}
 use Rattle.layout.specs.Form.{faultsOf, illFormed, orSome}
 use Rattle.layout.specs.declared.entry.Entry.{Entry}
 use Rattle.bits.proofs.ByteLaws.{bytes-number, number-bytes}
-use Rattle.layout.proofs.EntryLaws.{back, Laid, number-lt, one, round, two}
+use Rattle.layout.proofs.EntryLaws.{back, number-lt, round}
 use Rattle.bits.proofs.FieldLaws.{pack-lt}
 
 -- locked without a holder, or a holder without the lock: the lock is there just if the holder is zero
@@ -50,8 +50,8 @@ laid m e f h = go (e .kind) f (sym (ill-as m e refl) ∙ h)
   where
     go : (k : ℕ) → (k ≡ 0 → ⊥) → orSome false (faultsOf k m e) ≡ false → Laid k
     go zero f h = absurd (f refl)
-    go (suc zero) f h = one refl
-    go (suc (suc zero)) f h = two refl
+    go (suc zero) f h = laidDirect refl
+    go (suc (suc zero)) f h = laidIndirect refl
     go (suc (suc (suc k))) f h = let z : _≡_ {A = ℕ} 0 1 = cc in absurd (omega arith)
 
 -- 32 bytes of an entry that is neither free nor ill-formed, read and written again, are the same bytes

@@ -1,6 +1,6 @@
--- The 40 bytes of a tag are five words for SipHash.
+-- The 40 bytes of a tag are five words for SipHash, and its hash is the tag.
 -- Assumes nothing.
-use mathlib.Core.Path.{_≡_, refl, ap}
+use mathlib.Core.Path.{_≡_, refl, sym, _∙_, ap}
 use mathlib.Core.List.{List, _++_}
 use Prim.Native.Nat.{ℕ, _/_, _%_, _^_, _<_}
 use lib.ListN.{length}
@@ -8,6 +8,7 @@ use Rattle.bits.specs.Bytes.{bytes, lowBytes, lowNumber, number}
 use Rattle.layout.specs.Entry.{wordList, wordsNumber, wordWidths}
 use Rattle.bits.specs.Fields.{Fit}
 use Rattle.bits.specs.SipHash.{absorb, compress, finish, padded, siphash, start, word}
+use Rattle.layout.specs.Tag.{TagFor, tagOf}
 use Rattle.layout.specs.declared.entry.Words.{Words}
 use Rattle.bits.specs.declared.siphash.Lanes.{Lanes}
 use Rattle.bits.proofs.ByteLaws.{low-round}
@@ -37,8 +38,14 @@ absorbed : (w : Words) (n : ℕ) (v : Lanes) → n < 2 ^ 64 → absorb 5 (messag
 unfolding absorb word bytes lowBytes lowNumber number
 absorbed w n v l = ap (compress (compress (compress (compress (compress v (low (w .a))) (low (w .b))) (low (w .c))) (low (w .d)))) (low-round 8 n l)
 
-pub hash-words : (k0 k1 n : ℕ) (w : Words) → Fit wordWidths (wordList w) → n < 2 ^ 64
+hash-words : (k0 k1 n : ℕ) (w : Words) → Fit wordWidths (wordList w) → n < 2 ^ 64
     → siphash k0 k1 (bytes 32 (wordsNumber w) ++ lowBytes 8 n) % 2 ^ 16 ≡ finish (compress (fiveWords (start k0 k1) w n) 0x2800000000000000) % 65536
 unfolding wordsNumber
 hash-words k0 k1 n w f l =
     rw (bytes-words (wordList w) f, hashed k0 k1 (message w n), five w n, sixth w n, absorbed w n (start k0 k1) l)
+
+-- what the code computes is the tag
+pub hash-tag : (k0 k1 n : ℕ) (w : Words) → Fit wordWidths (wordList w) → n < 2 ^ 64
+    → {g : ℕ} → g ≡ finish (compress (fiveWords (start k0 k1) w n) 0x2800000000000000) % 65536 → TagFor k0 k1 w n g
+unfolding tagOf
+hash-tag k0 k1 n w f l h e is = h ∙ sym (hash-words k0 k1 n w f l) ∙ ap (λ (x : ℕ). siphash k0 k1 (bytes 32 x ++ lowBytes 8 n) % 2 ^ 16) is

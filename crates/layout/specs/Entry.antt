@@ -195,6 +195,11 @@ pub data Storable (e : Entry) : Type 0 where
   isDirect : e .kind ≡ 1 → e .parent ≡ 0 → e .zeros ≡ 0 → Fit directWidths (directFields e) → Storable e
   isIndirect : e .kind ≡ 2 → e .holder ≡ 0 → e .user ≡ 0 → Fit indirectWidths (indirectFields e) → Storable e
 
+-- a type with a layout of its own: direct, or indirect
+pub data Laid (kind : ℕ) : Type 0 where
+  laidDirect : kind ≡ 1 → Laid kind
+  laidIndirect : kind ≡ 2 → Laid kind
+
 -- ---- in code
 
 -- each field whose number in code has more bits than the field fits it

@@ -435,3 +435,20 @@ pub fn indirect(base: u32, length: u32, parent: u64, permissions: u8, tag: u16, 
     e.nonce = nonce;
     e
 }
+
+// The words of a direct entry as it is issued, with tag and nonce 0: from here on an issue handles
+// four words, and no entry with all its fields.
+pub fn issued_direct(base: u32, length: u32, user: u64, permissions: u8, lockable: bool) -> Words
+    requires { ⌜ permissions < 8 ⌝ }
+    ensures { λ r. ⌜ entryOf (wordsNumber r) ≡ direct base length user permissions lockable 0 0 ⌝ }
+{
+    direct_words(direct(base, length, user, permissions, lockable, 0, 0))
+}
+
+// And of an indirect one.
+pub fn issued_indirect(base: u32, length: u32, parent: u64, permissions: u8) -> Words
+    requires { ⌜ permissions < 8 ⌝ }
+    ensures { λ r. ⌜ entryOf (wordsNumber r) ≡ indirect base length parent permissions 0 0 ⌝ }
+{
+    indirect_words(indirect(base, length, parent, permissions, 0, 0))
+}

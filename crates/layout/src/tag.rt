@@ -1,25 +1,41 @@
 // Tags: SipHash-2-4 over an entry and its number.
-use crate::entry::Entry;
 use crate::entry::Words;
-use crate::entry::words_of;
-use crate::entry::write_words;
 use bits::siphash::compress;
 use bits::siphash::finish;
 use bits::siphash::start;
 use bits::word::swapped;
 ghost use mathlib.Core.Path.{_≡_};
-ghost use mathlib.Core.List.{_++_};
-ghost use Prim.Native.Nat.{_%_, _^_};
-ghost use lib.ListN.{length};
-ghost use Rattle.bits.specs.Bytes.{bytes, lowBytes};
-ghost use Rattle.bits.specs.SipHash.{siphash};
-ghost use Rattle.layout.specs.Entry.{entryBytes, entryNumber, Fits, wordsNumber};
-ghost use Rattle.layout.specs.Tag.{retag, tagOf};
+ghost use mathlib.Core.List.{[], _∷_};
+ghost use Prim.Native.Nat.{_/_, _^_};
+ghost use Rattle.bits.specs.Fields.{pack};
+ghost use Rattle.layout.specs.Entry.{dated, entryNumber, entryOf, Laid, wordsNumber};
+ghost use Rattle.layout.specs.Tag.{retag, TagFor};
 
-// The low 16 bits of the hash of four words and a number. These 40 bytes are five words for
-// SipHash, which reads the low byte of a word first; the sixth holds their length alone.
-fn hash(k0: u64, k1: u64, w: Words, number: u64) -> u16
-    ensures { λ r. ⌜ r ≡ siphash k0 k1 (bytes 32 (wordsNumber w) ++ lowBytes 8 number) % 2 ^ 16 ⌝ }
+// The last word of an entry with another tag and nonce, its low 48 bits.
+fn with_tag(word: u64, tag: u16, nonce: u32) -> u64
+    ensures { λ r. ⌜ r ≡ pack (16 ∷ 16 ∷ 32 ∷ []) (word / 2 ^ 48 ∷ tag ∷ nonce ∷ []) ⌝ }
+{
+    ((word >> 48) << 48) + ((tag as u64) << 32) + (nonce as u64)
+}
+
+// The words of the same entry with another tag and nonce.
+pub fn stamped(w: Words, tag: u16, nonce: u32) -> Words
+    requires { ⌜ Laid (entryOf (wordsNumber w) .kind) ⌝ }
+    ensures { λ r. ⌜ wordsNumber r ≡ entryNumber (retag (dated (entryOf (wordsNumber w)) nonce) tag) ⌝ }
+{
+    Words {
+        a: w.a,
+        b: w.b,
+        c: w.c,
+        d: with_tag(w.d, tag, nonce),
+    }
+}
+
+// The tag, under a number, of the entry whose words with tag 0 are w: the low 16 bits of the hash.
+// The 40 bytes are five words for SipHash, which reads the low byte of a word first; the sixth holds
+// their length alone.
+pub fn tag(k0: u64, k1: u64, w: Words, number: u64) -> u16
+    ensures { λ r. ⌜ TagFor k0 k1 w number r ⌝ }
 {
     let one = compress(start(k0, k1), swapped(w.a));
     let two = compress(one, swapped(w.b));
@@ -29,50 +45,29 @@ fn hash(k0: u64, k1: u64, w: Words, number: u64) -> u16
     (finish(compress(five, 40 << 56)) % 65536) as u16
 }
 
-// The words of the entry e with tag 0, whatever tag e has.
-fn untagged(e: Entry) -> Words
-    requires { ⌜ Fits e ⌝ }
-    ensures { λ r. ⌜ wordsNumber r ≡ entryNumber (retag e 0) ⌝ }
-{
-    let mut u = e;
-    u.tag = 0;
-    words_of(u)
+pub struct Tags {
+    pub first: u16,
+    pub second: u16,
 }
 
-// The words of the entry e with tag 0 become those with tag t. A type without a layout has no tag.
-fn tagged(w: Words, e: Entry, t: u16) -> Words
-    requires { ⌜ wordsNumber w ≡ entryNumber (retag e 0) ⌝ }
-    ensures { λ r. ⌜ wordsNumber r ≡ entryNumber (retag e t) ⌝ }
+// The tags of two entries under their numbers, word by word by turns: a processor then works on both
+// hashes at once, where each step of one waits for the last.
+pub fn two_tags(k0: u64, k1: u64, w: Words, number: u64, v: Words, other: u64) -> Tags
+    ensures { λ r. ⌜ TagFor k0 k1 w number (r .first) × TagFor k0 k1 v other (r .second) ⌝ }
 {
-    if (e.kind == 1) | (e.kind == 2) {
-        Words {
-            a: w.a,
-            b: w.b,
-            c: w.c,
-            d: w.d + (t as u64) * 4294967296,
-        }
-    } else {
-        w
+    let zero = start(k0, k1);
+    let w1 = compress(zero, swapped(w.a));
+    let v1 = compress(zero, swapped(v.a));
+    let w2 = compress(w1, swapped(w.b));
+    let v2 = compress(v1, swapped(v.b));
+    let w3 = compress(w2, swapped(w.c));
+    let v3 = compress(v2, swapped(v.c));
+    let w4 = compress(w3, swapped(w.d));
+    let v4 = compress(v3, swapped(v.d));
+    let w5 = compress(w4, number);
+    let v5 = compress(v4, other);
+    Tags {
+        first: (finish(compress(w5, 40 << 56)) % 65536) as u16,
+        second: (finish(compress(v5, 40 << 56)) % 65536) as u16,
     }
-}
-
-// The tag of the entry e under a number, whatever tag e has.
-pub fn tag(k0: u64, k1: u64, e: Entry, number: u64) -> u16
-    requires { ⌜ Fits e ⌝ }
-    ensures { λ r. ⌜ r ≡ tagOf k0 k1 e number ⌝ }
-{
-    hash(k0, k1, untagged(e), number)
-}
-
-// The entry e is stored as 32 bytes with its tag under a number, which is given.
-pub fn store_tagged(part: &mut [u8], k0: u64, k1: u64, e: Entry, number: u64) -> u16
-    requires { ⌜ length (now part) ≡ 32 ⌝ }
-    requires { ⌜ Fits e ⌝ }
-    ensures { λ r. ⌜ r ≡ tagOf k0 k1 e number ⌝ }
-    ensures { λ _. ⌜ now (part .exit) ≡ entryBytes (retag e (tagOf k0 k1 e number)) ⌝ }
-{
-    let w = untagged(e);
-    let t = hash(k0, k1, w, number);
-    write_words(part, tagged(w, e, t));
-    t
 }

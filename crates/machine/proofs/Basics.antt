@@ -13,7 +13,7 @@ use borrow.Author.Tests.{eqb-false, eqb-true, ltb-false, ltb-true, not-true}
 use Rattle.layout.specs.Entry.{Storable}
 use Rattle.layout.specs.Form.{endPastMemory, faultsOf, illFormed, lengthZero, orSome}
 use Rattle.layout.specs.declared.entry.Entry.{Entry}
-use Rattle.layout.proofs.EntryLaws.{Laid, one, two}
+use Rattle.layout.specs.Entry.{Laid, laidDirect, laidIndirect}
 use Rattle.layout.proofs.FormLaws.{ill-as, laid}
 use Rattle.bits.proofs.TestLaws.{both}
 use Rattle.machine.specs.Demand3.{above, itself, Owns}
@@ -99,5 +99,5 @@ range m e k f = go (laid m e k f)
         (omega arith, ltb-false m (e .base + e .length) (both .1))
 
     go : Laid (e .kind) → (0 < e .length) × (e .base + e .length ≤ m)
-    go (one i) = fault (drop 2 (faultsOf 1 m e)) (sym (ill-as m e i) ∙ f)
-    go (two i) = fault (drop 2 (faultsOf 2 m e)) (sym (ill-as m e i) ∙ f)
+    go (laidDirect i) = fault (drop 2 (faultsOf 1 m e)) (sym (ill-as m e i) ∙ f)
+    go (laidIndirect i) = fault (drop 2 (faultsOf 2 m e)) (sym (ill-as m e i) ∙ f)

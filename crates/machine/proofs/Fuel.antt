@@ -12,7 +12,7 @@ use borrow.Author.Tests.{eqb-true, eqb-false, le-ltb, lt-ltb, ltb-true}
 use Rattle.layout.specs.Entry.{free}
 use Rattle.layout.specs.Form.{illFormed}
 use Rattle.layout.specs.declared.entry.Entry.{Entry}
-use Rattle.layout.proofs.EntryLaws.{Laid, one, two}
+use Rattle.layout.specs.Entry.{Laid, laidDirect, laidIndirect}
 use Rattle.layout.proofs.FormLaws.{laid}
 use Rattle.machine.specs.Demand3.{above, itself, Owns}
 use Rattle.machine.specs.Issuing.{after, issue, newNumber, passOver, seek}
@@ -56,8 +56,8 @@ walk-owns (suc f) m t n k =
     P x = Live x → Owns t n (ownerOf x)
 
     kind-two : Laid (at t n .kind) → at t n .kind ≢ 1 → at t n .kind ≡ 2
-    kind-two (one i) d = absurd (d i)
-    kind-two (two i) d = i
+    kind-two (laidDirect i) d = absurd (d i)
+    kind-two (laidIndirect i) d = i
 
 -- and the owner is well-formed
 pub walk-formed : (f m : ℕ) (t : List ℕ) (n : ℕ) → Live (walk f m t n) → illFormed m (at t (ownerOf (walk f m t n))) ≡ false

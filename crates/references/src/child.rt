@@ -3,7 +3,7 @@ use checks::refusal::Refusal;
 use layout::entry::Entry;
 use layout::entry::base_of;
 use layout::entry::count_of;
-use layout::entry::indirect;
+use layout::entry::issued_indirect;
 use layout::entry::tag_of;
 use rulings::allot::Allotted;
 use rulings::allot::allot;
@@ -49,7 +49,7 @@ pub(crate) fn grant_child(
 {
     let w = words_at(table, n);
     let parent = token_of(1, n, tag_of(w));
-    let child = indirect(base_of(w) + offset, length, parent, permissions, 0, 0);
+    let child = issued_indirect(base_of(w) + offset, length, parent, permissions);
     let given = give(s, table, new, child, encoding);
     recount(table, n, w, count_of(w) + 1);
     let state = given.state;

@@ -10,27 +10,27 @@ use lib.ListN.{length}
 use borrow.Author.Tests.{eq-eqb, le-leb, leb-true, lt-leb, lt-ltb, ltb-true, ne-eqb, not-false, not-true}
 use Rattle.tokens.specs.Permissions.{within}
 use Rattle.tokens.specs.Token.{named}
-use Rattle.layout.specs.Entry.{dated, Fits}
+use Rattle.layout.specs.Entry.{dated, Laid, laidDirect}
 use Rattle.layout.specs.declared.entry.Entry.{Entry}
 use Rattle.tokens.specs.declared.token.Named.{Named}
-use Rattle.layout.proofs.EntryLaws.{direct-fits}
 use Rattle.checks.specs.Holds.{requestHolds, settingsHold}
 use Rattle.checks.specs.Reached.{reachVerdict}
 use Rattle.checks.proofs.ReachLaws.{reach-in}
 use Rattle.machine.specs.Issuing.{newNumber}
 use Rattle.machine.specs.Operations.{book, grantCreate, granted, issuing, namedEntry, numberOf, partOf, restOf}
-use Rattle.machine.specs.Parts.{at, size, spent, State}
+use Rattle.machine.specs.Parts.{at, moved, size, spent, State}
 use Rattle.machine.specs.Requests.{create}
 use Rattle.machine.specs.Steps.{pass, stop, Verdict}
 use Rattle.machine.specs.Stops.{atBounds, atKind, atRight, atStanding, checks, places, sizes}
-use Rattle.machine.specs.Writes.{give, opened, reissue, vacated, write}
+use Rattle.machine.specs.Writes.{give, opened, reissue, vacated, write, written}
 use Rattle.machine.proofs.Choices.{by-both}
 use Rattle.machine.proofs.Decided.{AllTrue, Passed}
 use Rattle.machine.proofs.TableLaws.{length-put}
-use Rattle.table.specs.Left.{Issues, issuedAs, Left, leftBy}
+use Rattle.table.specs.Left.{Issues, issuedAs, issuedTwoAs, Left, leftBy}
 use Rattle.table.specs.States.{stateAs}
 use Rattle.table.specs.declared.state.StateWords.{StateWords}
 use Rattle.table.specs.declared.writes.Issued.{Issued}
+use Rattle.table.specs.declared.writes.IssuedTwo.{IssuedTwo}
 use Rattle.table.proofs.FitLaws.{at-fits}
 use Rattle.rulings.specs.Allotments.{allotVerdict, Limits}
 use Rattle.rulings.specs.Rulings.{givingOne, givingTwo, granting, handed, restOn, tokensOn, verdictOn}
@@ -133,48 +133,41 @@ module _ (m : ℕ) (s : State) (t : List ℕ) (k u l x p c : ℕ) (h : verdictOn
         permitted = omega arith;
         rights = at-fits t (numberOf k) .permissions;
         nonces = nonces;
-        issues = record { inside = new .0; small = new .1; fits = direct-fits _ _ _ _ _ _ _ (omega arith); encoded = leb-true c 3 (search); left = some-nonce (eqb l (namedEntry t k .length)) (s .next) nonces };
+        issues = record { inside = new .0; small = new .1; laid = laidDirect refl; encoded = leb-true c 3 (search); left = some-nonce (eqb l (namedEntry t k .length)) (s .next) nonces };
       }
 
   pub parting : (n : Named) (e : Entry) → n ≡ named k → e ≡ at t (n .number) → Parting s t (n .number) e l x p c
   parting n e is there = rw (there, is) named-parts
 
--- ---- what is left once the part is given
+-- the entry n is still there once the part is given
+pub rest-in : (s : State) (t : List ℕ) (n c : ℕ) (part : ℕ → Entry) (a : Left) → a ≡ leftBy (write c (opened s t) (give part)) → 32 * n + 32 ≤ length t → 32 * n + 32 ≤ length (a .table)
+rest-in s t n c part a gave h = omega (arith, ap (λ (y : Left). length (y .table)) gave ∙ length-put _ _ _)
 
-module _ (s : StateWords) (t : List ℕ) (l x p c n : ℕ) (e part : Entry) (a : Issued) (t₁ : List ℕ) (gave : issuedAs a t₁ ≡ leftBy (write c (opened (stateAs s) t) (give (dated part)))) where
-  same-length : length t₁ ≡ length t
-  same-length = ap (λ (y : Left). length (y .table)) gave ∙ length-put _ _ _
-
-  module _ (h : Parting (stateAs s) t n e l x p c) where
-    pub rest-in : 32 * n + 32 ≤ length t₁
-    rest-in = omega (arith, same-length, h .inside)
-
-    -- a rest f can be issued
-    pub rest-issues : (f : Entry) → Fits f → (l ≡ e .length → ⊥) → Issues (stateAs (a .state)) t₁ n f c
-    rest-issues f fits some =
-        let two : s .next + 2 ≤ spent = rw (ne-eqb l (e .length) some) at (h .nonces) in
-        let next : a .state .next ≡ s .next + 1 = ap (λ (y : Left). y .state .next) gave in
-        record { inside = rest-in; small = h .small; fits = fits; encoded = h .issues .encoded; left = omega arith }
+-- and a rest f can be issued under it, with the nonce after the part's
+pub rest-issues : (s : State) (t : List ℕ) (n : ℕ) (e : Entry) (l x p c : ℕ) → Parting s t n e l x p c → (f : Entry) → Laid (f .kind) → (l ≡ e .length → ⊥) → (last : ℕ) → Issues (moved s last (s .next + 1)) t n f c
+rest-issues s t n e l x p c h f laid some last =
+    let two : s .next + 2 ≤ spent = rw (ne-eqb l (e .length) some) at (h .nonces) in
+    record { inside = h .inside; small = h .small; laid = laid; encoded = h .issues .encoded; left = omega arith }
 
 -- ---- what is handed back
 
-module _ (m : ℕ) (s : StateWords) (t : List ℕ) (k u l x p c : ℕ) (n : Named) (e part : Entry) (is : n ≡ named k) (there : e ≡ at t (n .number)) (cut : part ≡ partOf e l x p 0)
-    (a : Issued) (t₁ t₂ : List ℕ) (gave : issuedAs a t₁ ≡ leftBy (write c (opened (stateAs s) t) (give (dated part)))) (r : Outcome) where
+module _ (m : ℕ) (s : StateWords) (t : List ℕ) (k u l x p c : ℕ) (n : Named) (e part : Entry) (is : n ≡ named k) (there : e ≡ at t (n .number)) (cut : part ≡ partOf e l x p 0) (r : Outcome) (t₁ : List ℕ) where
   here : e ≡ namedEntry t k
   here = rw is at there
 
-  pub create-whole : l ≡ e .length → t₂ ≡ vacated t₁ (n .number) → r ≡ givingOne (a .state) (a .token) → handed r t₂ ≡ granting m (stateAs s) t (create k u l x p c) []
+  pub create-whole : l ≡ e .length → (a : Issued) (t₂ : List ℕ) → issuedAs a t₁ ≡ leftBy (write c (opened (stateAs s) t) (give (dated part))) → t₂ ≡ vacated t₁ (n .number)
+      → r ≡ givingOne (a .state) (a .token) → handed r t₂ ≡ granting m (stateAs s) t (create k u l x p c) []
   unfolding granting
-  create-whole all freed done =
+  create-whole all a t₂ gave freed done =
       rw (done, freed)
       (ap (λ (y : Left). record { state = y .state; table = vacated (y .table) (n .number); reply = granted (y .tokens) 0 }) gave
       ∙ rw (cut, there, is, eq-eqb l (namedEntry t k .length) (rw here at all)))
 
-  pub create-rest : (l ≡ e .length → ⊥) → (rest : Entry) (b : Issued) → rest ≡ restOf e l 0 → issuedAs b t₂ ≡ leftBy (write c (opened (stateAs (a .state)) t₁) (reissue (n .number) (dated rest)))
-      → r ≡ givingTwo (b .state) (a .token) (b .token) → handed r t₂ ≡ granting m (stateAs s) t (create k u l x p c) []
+  pub create-rest : (l ≡ e .length → ⊥) → (rest : Entry) (b : IssuedTwo) → rest ≡ restOf e l 0
+      → issuedTwoAs b t₁ ≡ leftBy (written c (opened (stateAs s) t) (give (dated part) ∷ reissue (n .number) (dated rest) ∷ []))
+      → r ≡ givingTwo (b .state) (b .first) (b .second) → handed r t₁ ≡ granting m (stateAs s) t (create k u l x p c) []
   unfolding granting
   create-rest some rest b over left done =
       rw done
-      (ap (λ (y : Left). record { state = y .state; table = y .table; reply = granted (a .token ∷ y .tokens) 0 }) left
-      ∙ ap (λ (y : Left). let z = write c (opened (y .state) (y .table)) (reissue (n .number) (dated rest)) in record { state = z .state; table = z .table; reply = granted (y .tokens ++ z .tokens) 0 }) gave
+      (ap (λ (y : Left). record { state = y .state; table = y .table; reply = granted (y .tokens) 0 }) left
       ∙ rw (over, cut, there, is, ne-eqb l (namedEntry t k .length) (rw here at some)))

@@ -1,19 +1,17 @@
 -- Merge: the ways out of its checks, and what it leaves.
 -- Assumes nothing.
-use mathlib.Core.Path.{_≡_, ap, _∙_}
+use mathlib.Core.Path.{_≡_, refl, ap, _∙_}
 use mathlib.Core.Bool.{true, false, not, _&&_, cond}
 use mathlib.Core.List.{List, []}
 use Prim.Native.Nat.{ℕ, _+_, _*_, _/_, _^_, _≤_, _<_}
 use native.Mathlib.Omega.{arith}
-use lib.Bits.{and-le-l}
 use lib.Dec.{eqb, leb, ltb}
 use lib.ListN.{length}
 use borrow.Author.Tests.{eq-eqb, le-leb, leb-true, lt-leb, ltb-true, ne-eqb}
 use Rattle.tokens.specs.Token.{named}
-use Rattle.layout.specs.Entry.{dated}
+use Rattle.layout.specs.Entry.{dated, laidDirect}
 use Rattle.layout.specs.declared.entry.Entry.{Entry}
 use Rattle.tokens.specs.declared.token.Named.{Named}
-use Rattle.layout.proofs.EntryLaws.{direct-fits}
 use Rattle.checks.specs.Holds.{requestHolds, settingsHold}
 use Rattle.checks.specs.Reached.{reachVerdict}
 use Rattle.checks.proofs.ReachLaws.{reach-in, reached-inside, size-in}
@@ -96,6 +94,7 @@ pub record Mergeable (s : State) (t : List ℕ) (n i c : ℕ) : Type 0 where
   pub first : 32 * n + 32 ≤ length t
   pub second : 32 * i + 32 ≤ length t
   pub sum : at t n .length + at t i .length < 2 ^ 32
+  pub rights : at t n .permissions < 8
   -- whichever entry is freed
   pub issues : (y : ℕ) → Issues s (vacated t y) n (mergedOf (at t n) (at t i) 0) c
 
@@ -111,10 +110,11 @@ named-pair m s t j k u c h =
       first = omega arith;
       second = size-in t (numberOf k) (search);
       sum = omega (arith, reached-inside m t (numberOf j) (search) (search), reached-inside m t (numberOf k) (search) (search));
+      rights = at-fits t (numberOf j) .permissions;
       issues = λ y. record {
         inside = rw length-put (omega arith);
         small = omega arith;
-        fits = direct-fits _ _ _ _ _ _ _ (omega (arith, and-le-l (namedEntry t j .permissions) (namedEntry t k .permissions), at-fits t (numberOf j) .permissions));
+        laid = laidDirect refl;
         encoded = leb-true c 3 (search);
         left = omega arith;
       };

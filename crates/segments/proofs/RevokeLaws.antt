@@ -1,6 +1,6 @@
 -- Revoke: the ways out of its checks, and what it leaves.
 -- Assumes nothing.
-use mathlib.Core.Path.{_≡_, ap, _∙_}
+use mathlib.Core.Path.{_≡_, refl, ap, _∙_}
 use mathlib.Core.Bool.{true, _&&_, cond}
 use mathlib.Core.List.{List, [], _++_}
 use Prim.Native.Nat.{ℕ, _+_, _-_, _/_, _≤_, _<_}
@@ -9,11 +9,10 @@ use lib.Dec.{eqb, leb}
 use lib.ListN.{length, replicate}
 use lib.Seq.{sets}
 use borrow.Author.Tests.{eq-eqb, le-leb, leb-true, lt-leb, ltb-true, ne-eqb}
-use Rattle.layout.specs.Entry.{dated}
+use Rattle.layout.specs.Entry.{dated, laidDirect}
 use Rattle.tokens.specs.Token.{named}
 use Rattle.layout.specs.declared.entry.Entry.{Entry}
 use Rattle.tokens.specs.declared.token.Named.{Named}
-use Rattle.layout.proofs.EntryLaws.{direct-fits}
 use Rattle.checks.specs.Holds.{requestHolds, settingsHold}
 use Rattle.checks.specs.Reached.{liveVerdict}
 use Rattle.checks.proofs.ReachLaws.{reached-inside}
@@ -97,7 +96,7 @@ revocable m s t k c h =
       issues = record {
         inside = omega arith;
         small = omega arith;
-        fits = direct-fits _ _ _ 7 _ _ _ (omega arith);
+        laid = laidDirect refl;
         encoded = leb-true c 3 (search);
         left = omega (arith, other-least s t (numberOf k) (fresh (namedEntry t k)));
       };

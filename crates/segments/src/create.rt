@@ -5,7 +5,7 @@ use checks::reach::reach_near;
 use checks::refusal::Refusal;
 use checks::settings::settings;
 use layout::entry::Entry;
-use layout::entry::direct;
+use layout::entry::issued_direct;
 use rulings::allot::Allotted;
 use rulings::allot::allot;
 use rulings::reply::Outcome;
@@ -15,7 +15,7 @@ use rulings::reply::refused;
 use table::entries::entry_at;
 use table::state::StateWords;
 use table::writes::give;
-use table::writes::reissue;
+use table::writes::give_and_reissue;
 use table::writes::vacate;
 use tokens::permissions::within;
 use tokens::token::read;
@@ -115,17 +115,17 @@ fn grant_create(
     let n = named.number as usize;
     let e = entry_at(table, n);
     let long = length as u32;
-    let part = direct(e.base, long, user, permissions as u8, e.lockable, 0, 0);
-    let first = give(s, table, new, part, encoding);
+    let part = issued_direct(e.base, long, user, permissions as u8, e.lockable);
     if long == e.length {
+        let given = give(s, table, new, part, encoding);
         vacate(table, n);
-        giving(first.state, first.token)
+        giving(given.state, given.token)
     } else {
         let base = e.base + long;
         let left = e.length - long;
-        let rest = direct(base, left, e.user, e.permissions, e.lockable, 0, 0);
-        let second = reissue(first.state, table, n, rest, encoding);
-        giving_two(second.state, first.token, second.token)
+        let rest = issued_direct(base, left, e.user, e.permissions, e.lockable);
+        let both = give_and_reissue(s, table, new, part, n, rest, encoding);
+        giving_two(both.state, both.first, both.second)
     }
 }
 

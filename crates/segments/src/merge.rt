@@ -5,7 +5,8 @@ use checks::reach::reach_near;
 use checks::refusal::Refusal;
 use checks::settings::settings;
 use layout::entry::Entry;
-use layout::entry::direct;
+use layout::entry::Words;
+use layout::entry::issued_direct;
 use rulings::reply::Checked;
 use rulings::reply::Outcome;
 use rulings::reply::giving;
@@ -20,6 +21,7 @@ ghost use mathlib.Core.Path.{_≡_};
 ghost use mathlib.Core.List.{List, []};
 ghost use Prim.Native.Nat.{ℕ, _+_, _<_, _^_};
 ghost use lib.ListN.{length};
+ghost use Rattle.layout.specs.Entry.{entryOf, wordsNumber};
 ghost use Rattle.machine.specs.Operations.{mergedOf, numberOf};
 ghost use Rattle.machine.specs.Parts.{at, State};
 ghost use Rattle.machine.specs.Requests as request;
@@ -85,14 +87,15 @@ fn neighbours(s: StateWords, d: Entry, e: Entry, n: usize, k: usize) -> Pair
     }
 }
 
-// A direct entry over both, with the first's user and Lockable and the permissions both have.
-fn joined(d: Entry, e: Entry) -> Entry
-    requires { ⌜ d .length + e .length < 2 ^ 32 ⌝ }
-    ensures { λ r. ⌜ r ≡ mergedOf d e 0 ⌝ }
+// The words of a direct entry over both, with the first's user and Lockable and the permissions both
+// have.
+fn joined(d: Entry, e: Entry) -> Words
+    requires { ⌜ (d .length + e .length < 2 ^ 32) × (d .permissions < 8) ⌝ }
+    ensures { λ r. ⌜ entryOf (wordsNumber r) ≡ mergedOf d e 0 ⌝ }
 {
     let length = d.length + e.length;
     let permissions = d.permissions & e.permissions;
-    direct(d.base, length, d.user, permissions, d.lockable, 0, 0)
+    issued_direct(d.base, length, d.user, permissions, d.lockable)
 }
 
 fn check_merge(

@@ -5,7 +5,8 @@ use checks::reach::reach_near;
 use checks::refusal::Refusal;
 use checks::settings::settings;
 use layout::entry::Entry;
-use layout::entry::direct;
+use layout::entry::Words;
+use layout::entry::issued_direct;
 use rulings::reply::Outcome;
 use rulings::reply::giving;
 use rulings::reply::refused;
@@ -19,6 +20,7 @@ ghost use mathlib.Core.Path.{_≡_};
 ghost use mathlib.Core.List.{List, []};
 ghost use Prim.Native.Nat.{ℕ, _≤_};
 ghost use lib.ListN.{length};
+ghost use Rattle.layout.specs.Entry.{entryOf, wordsNumber};
 ghost use Rattle.machine.specs.Operations as operation;
 ghost use Rattle.machine.specs.Parts.{at, spent};
 ghost use Rattle.machine.specs.Requests as request;
@@ -34,11 +36,11 @@ pub enum Renewal {
     Anew(Renewed),
 }
 
-// The entry e as it is issued anew: its segment, with all rights and no user.
-fn fresh(e: Entry) -> Entry
-    ensures { λ r. ⌜ r ≡ operation.fresh e 0 ⌝ }
+// The words of the entry e as it is issued anew: its segment, with all rights and no user.
+fn fresh(e: Entry) -> Words
+    ensures { λ r. ⌜ entryOf (wordsNumber r) ≡ operation.fresh e 0 ⌝ }
 {
-    direct(e.base, e.length, 0, 7, true, 0, 0)
+    issued_direct(e.base, e.length, 0, 7, true)
 }
 
 // Places 6 and 11, for the entry e of number n, whatever token names it.

@@ -4,7 +4,7 @@ use mathlib.Core.Path.{_≡_}
 use mathlib.Core.List.{List, [], _∷_}
 use Prim.Native.Nat.{ℕ, _+_, _*_, _≤_, _<_}
 use lib.ListN.{length}
-use Rattle.layout.specs.Entry.{dated, Fits}
+use Rattle.layout.specs.Entry.{dated, Laid}
 use Rattle.layout.specs.declared.entry.Entry.{Entry}
 use Rattle.machine.specs.Issuing.{issue}
 use Rattle.machine.specs.Parts.{spent, State}
@@ -13,6 +13,7 @@ use Rattle.table.specs.States.{stateAs}
 use Rattle.table.specs.declared.issue.Renewed.{Renewed}
 use Rattle.table.specs.declared.state.StateWords.{StateWords}
 use Rattle.table.specs.declared.writes.Issued.{Issued}
+use Rattle.table.specs.declared.writes.IssuedTwo.{IssuedTwo}
 
 pub record Left : Type 0 where
   pub state : State
@@ -25,6 +26,9 @@ leftBy b = record { state = b .state; table = b .table; tokens = b .tokens }
 abbrev pub issuedAs : Issued → List ℕ → Left
 issuedAs r t = record { state = stateAs (r .state); table = t; tokens = r .token ∷ [] }
 
+abbrev pub issuedTwoAs : IssuedTwo → List ℕ → Left
+issuedTwoAs r t = record { state = stateAs (r .state); table = t; tokens = r .first ∷ r .second ∷ [] }
+
 abbrev pub begunAs : StateWords → List ℕ → Left
 begunAs s t = record { state = stateAs s; table = t; tokens = [] }
 
@@ -32,7 +36,7 @@ begunAs s t = record { state = stateAs s; table = t; tokens = [] }
 pub record Issues (s : State) (t : List ℕ) (n : ℕ) (e : Entry) (encoding : ℕ) : Type 0 where
   pub inside : 32 * n + 32 ≤ length t
   pub small : n < 1024
-  pub fits : Fits e
+  pub laid : Laid (e .kind)
   pub encoded : encoding ≤ 3
   pub left : s .next < spent
 

@@ -3,13 +3,12 @@ use layout::entry::Entry;
 use layout::entry::Words;
 use layout::entry::load;
 use layout::entry::read_words;
-use layout::entry::store;
 use layout::entry::write_words;
 ghost use mathlib.Core.Path.{_≡_};
 ghost use Prim.Native.Nat.{_+_, _*_, _≤_};
 ghost use lib.ListN.{length};
-ghost use Rattle.layout.specs.Entry.{entryOf, Fits, wordsNumber};
-ghost use Rattle.machine.specs.Parts.{at, put};
+ghost use Rattle.layout.specs.Entry.{entryOf, wordsNumber};
+ghost use Rattle.machine.specs.Parts.{at};
 ghost use Rattle.table.specs.Stores.{Stored};
 
 // The entry of number n.
@@ -30,17 +29,6 @@ pub fn words_at(table: &[u8], n: usize) -> Words
     let start = 32 * n;
     let end = start + 32;
     read_words(&table[start..end])
-}
-
-// The entry e is stored under number n.
-pub fn put_entry(table: &mut [u8], n: usize, e: Entry)
-    requires { ⌜ 32 * n + 32 ≤ length (now table) ⌝ }
-    requires { ⌜ Fits e ⌝ }
-    ensures { λ _. ⌜ now (table .exit) ≡ put (now (table .entry)) n e ⌝ }
-{
-    let start = 32 * n;
-    let end = start + 32;
-    store(&mut table[start..end], e);
 }
 
 // The words are stored under number n: it holds the entry whose words they are.

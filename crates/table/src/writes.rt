@@ -1,25 +1,26 @@
 // What is written into state and table: each function is one of the machine's writes.
-use crate::entries::put_entry;
 use crate::entries::put_words;
 use crate::issue::Renewed;
-use crate::issue::issue_at;
+use crate::issue::enter;
+use crate::issue::tag_under;
 use crate::state::StateWords;
 use bits::slice::clear;
-use layout::entry::Entry;
 use layout::entry::Words;
-use layout::entry::direct;
 use layout::entry::free_words;
+use layout::entry::issued_direct;
 use layout::entry::recounted;
 use layout::entry::relocked;
-use tokens::token::token_of;
+use layout::tag::stamped;
+use layout::tag::two_tags;
 ghost use mathlib.Core.Path.{_≡_};
+ghost use mathlib.Core.List.{[], _∷_};
 ghost use Prim.Native.Nat.{_+_, _*_, _^_, _≤_, _<_};
 ghost use lib.ListN.{length};
-ghost use Rattle.layout.specs.Entry.{dated, entryOf, Fits, recounted, relocked, wordsNumber};
-ghost use Rattle.machine.specs.Issuing.{issue, newNumber};
-ghost use Rattle.machine.specs.Parts.{put};
+ghost use Rattle.layout.specs.Entry.{dated, entryOf, recounted, relocked, wordsNumber};
+ghost use Rattle.machine.specs.Issuing.{newNumber};
+ghost use Rattle.machine.specs.Parts.{moved, put};
 ghost use Rattle.machine.specs.Writes as write;
-ghost use Rattle.table.specs.Left.{begunAs, Issues, issuedAs, leftBy, Renews};
+ghost use Rattle.table.specs.Left.{begunAs, Issues, issuedAs, issuedTwoAs, leftBy, Renews};
 ghost use Rattle.table.specs.States.{stateAs};
 
 // The state that an issue leaves, and the token that it gives.
@@ -28,62 +29,89 @@ pub struct Issued {
     pub token: u64,
 }
 
-// The entry e, with its nonce, is issued under number n; gives its token.
-fn enter(s: StateWords, table: &mut [u8], n: usize, e: Entry, encoding: u64) -> u64
-    requires { ⌜ (32 * n + 32 ≤ length (now table)) × (n < 1024) ⌝ }
-    requires { ⌜ (encoding ≤ 3) × Fits e ⌝ }
-    ensures { λ r. ⌜ r ≡ write.tokenFor encoding (write.nameOf n (issue (stateAs s) n e)) ⌝ }
-    ensures { λ _. ⌜ now (table .exit) ≡ put (now (table .entry)) n (issue (stateAs s) n e) ⌝ }
-{
-    let t = issue_at(s, table, n, e);
-    token_of(encoding, n, t)
-}
-
-// The entry e is issued with the next nonce under the new number n.
-pub fn give(mut s: StateWords, table: &mut [u8], n: usize, mut e: Entry, encoding: u64) -> Issued
-    requires { ⌜ Issues (stateAs s) (now table) n e encoding ⌝ }
+// The entry whose words are w is issued with the next nonce under the new number n.
+pub fn give(mut s: StateWords, table: &mut [u8], n: usize, w: Words, encoding: u64) -> Issued
+    requires { ⌜ Issues (stateAs s) (now table) n (entryOf (wordsNumber w)) encoding ⌝ }
     requires { ⌜ n ≡ newNumber (stateAs s) (now table) ⌝ }
-    ensures { λ r. ⌜ issuedAs r (now (table .exit)) ≡ leftBy (write.write encoding (write.opened (stateAs s) (now (table .entry))) (write.give (dated e))) ⌝ }
+    ensures { λ r. ⌜ issuedAs r (now (table .exit)) ≡ leftBy (write.write encoding (write.opened (stateAs s) (now (table .entry))) (write.give (dated (entryOf (wordsNumber w))))) ⌝ }
 {
-    e.nonce = s.next as u32;
-    let token = enter(s, table, n, e, encoding);
+    let nonce = s.next as u32;
+    let t = tag_under(s, n, w, nonce);
+    let token = enter(table, n, w, nonce, t, encoding);
     s.last = n as u64;
     s.next += 1;
     Issued { state: s, token }
 }
 
-// The entry e is issued anew, with the next nonce, under its number n.
-pub fn reissue(mut s: StateWords, table: &mut [u8], n: usize, mut e: Entry, encoding: u64) -> Issued
-    requires { ⌜ Issues (stateAs s) (now table) n e encoding ⌝ }
-    ensures { λ r. ⌜ issuedAs r (now (table .exit)) ≡ leftBy (write.write encoding (write.opened (stateAs s) (now (table .entry))) (write.reissue n (dated e))) ⌝ }
+// It is issued anew, with the next nonce, under its number n.
+pub fn reissue(mut s: StateWords, table: &mut [u8], n: usize, w: Words, encoding: u64) -> Issued
+    requires { ⌜ Issues (stateAs s) (now table) n (entryOf (wordsNumber w)) encoding ⌝ }
+    ensures { λ r. ⌜ issuedAs r (now (table .exit)) ≡ leftBy (write.write encoding (write.opened (stateAs s) (now (table .entry))) (write.reissue n (dated (entryOf (wordsNumber w))))) ⌝ }
 {
-    e.nonce = s.next as u32;
-    let token = enter(s, table, n, e, encoding);
+    let nonce = s.next as u32;
+    let t = tag_under(s, n, w, nonce);
+    let token = enter(table, n, w, nonce, t, encoding);
     s.next += 1;
     Issued { state: s, token }
 }
 
-// The same with the nonce and the tag that a search has found.
+// The state that two issues leave, and their tokens.
+pub struct IssuedTwo {
+    pub state: StateWords,
+    pub first: u64,
+    pub second: u64,
+}
+
+// The first is given the new number n, then the second is issued anew under its number k; both tags
+// are computed at once.
+pub fn give_and_reissue(
+    mut s: StateWords,
+    table: &mut [u8],
+    n: usize,
+    first: Words,
+    k: usize,
+    second: Words,
+    encoding: u64,
+) -> IssuedTwo
+    requires { ⌜ Issues (stateAs s) (now table) n (entryOf (wordsNumber first)) encoding ⌝ }
+    requires { ⌜ n ≡ newNumber (stateAs s) (now table) ⌝ }
+    requires { ⌜ Issues (moved (stateAs s) n (s .next + 1)) (now table) k (entryOf (wordsNumber second)) encoding ⌝ }
+    ensures { λ r. ⌜ issuedTwoAs r (now (table .exit)) ≡ leftBy (write.written encoding (write.opened (stateAs s) (now (table .entry))) (write.give (dated (entryOf (wordsNumber first))) ∷ write.reissue k (dated (entryOf (wordsNumber second))) ∷ [])) ⌝ }
+{
+    let nonce = s.next as u32;
+    let later = (s.next + 1) as u32;
+    let new = n as u64;
+    let one = stamped(first, 0, nonce);
+    let two = stamped(second, 0, later);
+    let t = two_tags(s.key0, s.key1, one, new, two, k as u64);
+    let given = enter(table, n, first, nonce, t.first, encoding);
+    let reissued = enter(table, k, second, later, t.second, encoding);
+    s.last = new;
+    s.next = s.next + 1 + 1;
+    IssuedTwo {
+        state: s,
+        first: given,
+        second: reissued,
+    }
+}
+
+// The entry whose words are w is issued anew under its number n with the nonce and the tag that a
+// search has found.
 pub fn renew(
     mut s: StateWords,
     table: &mut [u8],
     n: usize,
-    mut e: Entry,
+    w: Words,
     new: Renewed,
     encoding: u64,
 ) -> Issued
-    requires { ⌜ Issues (stateAs s) (now table) n e encoding ⌝ }
-    requires { ⌜ Renews (stateAs s) (now table) n e new ⌝ }
-    ensures { λ r. ⌜ issuedAs r (now (table .exit)) ≡ leftBy (write.write encoding (write.opened (stateAs s) (now (table .entry))) (write.renew n (dated e))) ⌝ }
+    requires { ⌜ Issues (stateAs s) (now table) n (entryOf (wordsNumber w)) encoding ⌝ }
+    requires { ⌜ Renews (stateAs s) (now table) n (entryOf (wordsNumber w)) new ⌝ }
+    ensures { λ r. ⌜ issuedAs r (now (table .exit)) ≡ leftBy (write.write encoding (write.opened (stateAs s) (now (table .entry))) (write.renew n (dated (entryOf (wordsNumber w))))) ⌝ }
 {
-    e.nonce = new.nonce as u32;
-    e.tag = new.tag;
-    put_entry(table, n, e);
+    let token = enter(table, n, w, new.nonce as u32, new.tag, encoding);
     s.next = new.nonce + 1;
-    Issued {
-        state: s,
-        token: token_of(encoding, n, new.tag),
-    }
+    Issued { state: s, token }
 }
 
 // The entry of number n is freed.
@@ -124,7 +152,7 @@ pub fn begin(
     ensures { λ r. ⌜ begunAs r (now (table .exit)) ≡ leftBy (write.write 0 (write.opened (stateAs s) (now (table .entry))) (write.begin memory key0 key1 «first_nonce»)) ⌝ }
 {
     clear(table);
-    put_entry(table, 0, direct(0, memory as u32, 0, 7, true, 0, 0));
+    put_words(table, 0, issued_direct(0, memory as u32, 0, 7, true));
     s.key0 = key0;
     s.key1 = key1;
     s.last = 0;

@@ -1,10 +1,10 @@
 -- `references::child::grant_child` meets its contract: the sums fit, and both entries stand in the table.
 -- Assumes nothing.
+use mathlib.Core.Path.{refl}
 use Prim.Native.Nat.{_+_, _^_, _<_}
 use native.Mathlib.Omega.{arith}
 use borrow.Author.Needs.{needs}
-use Rattle.layout.specs.Entry.{entryOf, wordsNumber}
-use Rattle.layout.proofs.EntryLaws.{indirect-fits}
+use Rattle.layout.specs.Entry.{entryOf, laidIndirect, wordsNumber}
 use Rattle.references.proofs.ChildLaws.{child-grants}
 use Rattle.references.proofs.child.grant_child.Statement.{statement}
 use Rattle.references.proofs.child.grant_child.Tie as tie
@@ -29,7 +29,7 @@ grant-child-spec =
       record {
         inside = s .pre .child;
         small = omega (arith, s .pre .child, s .pre .most);
-        fits = rw (i .indirect .ensures) (indirect-fits _ _ _ _ _ _ (s .pre .permitted));
+        laid = rw (i .issued-indirect .ensures) (laidIndirect refl);
         encoded = s .pre .encoded;
         left = s .pre .nonce;
       },
@@ -51,4 +51,4 @@ grant-child-spec =
     let u = o .before in
     let w = u .before .before in
     let s = w .before .before .before in
-    child-grants (s .args .s) _ _ _ _ _ _ (entryOf (wordsNumber (w .words-at .result))) (i .indirect .result) _ _ (g .give .result) _ _ _ (w .words-at .ensures) (rw (u .before .tag-of .ensures) at (u .token-of .ensures)) (rw (o .base-of .ensures) at (i .indirect .ensures)) (g .give .ensures) (k .count-of .ensures) (c .before .before .before .before .recount .ensures) (c .giving .ensures)))
+    child-grants (s .args .s) _ _ _ _ _ _ (entryOf (wordsNumber (w .words-at .result))) (entryOf (wordsNumber (i .issued-indirect .result))) _ _ (g .give .result) _ _ _ (w .words-at .ensures) (rw (u .before .tag-of .ensures) at (u .token-of .ensures)) (rw (o .base-of .ensures) at (i .issued-indirect .ensures)) (g .give .ensures) (k .count-of .ensures) (c .before .before .before .before .recount .ensures) (c .giving .ensures)))

@@ -2,6 +2,7 @@
 -- Assumes nothing.
 use native.Mathlib.Omega.{arith}
 use borrow.Author.Needs.{needs}
+use Rattle.layout.specs.Entry.{entryOf, wordsNumber}
 use Rattle.table.specs.States.{stateAs}
 use Rattle.segments.proofs.MergeLaws.{merge-grants, Mergeable, mergeable}
 use Rattle.segments.proofs.merge.grant_merge.Statement.{statement}
@@ -17,7 +18,7 @@ grant-merge-spec =
     (tie.spec
     (λ c κs. pass (c .before .before) .first)
     (λ c κs. pass (c .before .before .before .before) .second)
-    (λ c κs. let d = c .before .before in rw (d .entry-at .ensures, c .entry-at2 .ensures) (pass (d .before .before .before) .sum))
+    (λ c κs. let d = c .before .before in let p = pass (d .before .before .before) in rw (d .entry-at .ensures, c .entry-at2 .ensures) (p .sum, p .rights))
     (λ c κs. let p = pass (c .before .before .before .before .before .before .before) in omega (arith, p .first, p .second))
     (λ c κs.
     let v = c .before .before .before in
@@ -34,4 +35,4 @@ grant-merge-spec =
     let e = w .before in
     let d = e .before .before in
     let s = d .before .before .before in
-    merge-grants _ _ _ _ _ _ _ _ _ (d .entry-at .result) (e .entry-at2 .result) (w .joined .result) _ _ (i .reissue .result) _ (s .pre .1 .0) (s .pre .1 .1) (d .entry-at .ensures) (e .entry-at2 .ensures) (w .joined .ensures) (v .vacate .ensures) (i .reissue .ensures) (c .giving .ensures)))
+    merge-grants _ _ _ _ _ _ _ _ _ (d .entry-at .result) (e .entry-at2 .result) (entryOf (wordsNumber (w .joined .result))) _ _ (i .reissue .result) _ (s .pre .1 .0) (s .pre .1 .1) (d .entry-at .ensures) (e .entry-at2 .ensures) (w .joined .ensures) (v .vacate .ensures) (i .reissue .ensures) (c .giving .ensures)))

@@ -2,6 +2,7 @@
 -- Assumes nothing.
 use borrow.Author.Needs.{needs}
 use lib.ListN.{length}
+use Rattle.layout.specs.Entry.{entryOf, wordsNumber}
 use Rattle.table.specs.States.{stateAs}
 use Rattle.segments.proofs.RevokeLaws.{Revocable, revocable, revoke-clears, revoke-grants}
 use Rattle.segments.proofs.revoke.grant_revoke.Statement.{statement}
@@ -39,4 +40,4 @@ grant-revoke-spec =
     let w = f .before .before .before .before .before .before in
     let e = w .before .before .before in
     let n = e .before .before in
-    (revoke-grants _ _ _ _ (n .read .result) (e .entry-at .result) (n .read .ensures) (e .entry-at .ensures) _ (w .before .fresh .result) (w .renew .result) _ _ (w .before .fresh .ensures) (w .renew .ensures) (c .giving .ensures), revoke-clears _ _ _ _ (n .read .result) (e .entry-at .result) (n .read .ensures) (e .entry-at .ensures) _ _ (f .clear-from .ensures))))
+    (revoke-grants _ _ _ _ (n .read .result) (e .entry-at .result) (n .read .ensures) (e .entry-at .ensures) _ (entryOf (wordsNumber (w .before .fresh .result))) (w .renew .result) _ _ (w .before .fresh .ensures) (w .renew .ensures) (c .giving .ensures), revoke-clears _ _ _ _ (n .read .result) (e .entry-at .result) (n .read .ensures) (e .entry-at .ensures) _ _ (f .clear-from .ensures))))

@@ -1,9 +1,11 @@
 -- `table::writes::begin` meets its contract: the table is cleared, then holds the root.
 -- Assumes nothing.
+use mathlib.Core.Path.{refl}
 use native.Mathlib.Omega.{arith}
 use lib.ListN.{length-replicate}
 use borrow.Author.Needs.{needs}
-use Rattle.layout.proofs.EntryLaws.{direct-fits}
+use Rattle.layout.specs.Entry.{laidDirect}
+use Rattle.layout.proofs.EntryLaws.{laid-words}
 use Rattle.table.specs.States.{stateAs}
 use Rattle.table.proofs.WriteLaws.{begin-left}
 use Rattle.table.proofs.writes.begin.Statement.{statement}
@@ -16,11 +18,10 @@ begin-spec =
     (λ c κs. search needs)
     (λ c. search needs)
     (λ c κs. search needs)
-    (λ c κs.
-    let z = c .before .before .before .before in
-    (rw (z .clear .ensures, length-replicate) (omega (arith, z .before .before .before .pre)), rw (c .direct .ensures) (direct-fits _ _ _ 7 _ _ _ (omega arith))))
+    (λ c κs. let z = c .before .before .before .before in rw (z .clear .ensures, length-replicate) (omega (arith, z .before .before .before .pre)))
     (λ c. search needs)
     (λ c.
     let p = c .before .before in
     let z = p .before .before .before .before .before in
-    begin-left (stateAs (z .before .before .before .args .s)) _ _ _ _ _ (p .before .direct .result) _ _ (z .clear .ensures) (p .before .direct .ensures) (p .put-entry .ensures)))
+    let w = p .before .issued-direct in
+    begin-left (stateAs (z .before .before .before .args .s)) _ _ _ _ _ _ _ (z .clear .ensures) (p .put-words .ensures _ (laid-words (w .result) (search needs) (laidDirect refl) (w .ensures)))))

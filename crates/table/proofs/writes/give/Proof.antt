@@ -1,4 +1,4 @@
--- `table::writes::give` meets its contract: the entry is entered, and the counters move.
+-- `table::writes::give` meets its contract: the entry is entered with its tag, and the counters move.
 -- Assumes nothing.
 use borrow.Author.Needs.{needs}
 use Rattle.table.proofs.writes.give.Statement.{statement}
@@ -10,6 +10,11 @@ give-spec =
     (tie.spec
     (λ c. search needs)
     (λ c κs. search needs)
+    (λ c κs. search needs)
     (λ c. search needs)
     (λ c. search needs)
-    (λ c. let i = c .before .before .before in let a = i .before .before .before .before in rw (i .enter .ensures .0, i .enter .ensures .1, a .pre .1)))
+    (λ c.
+    let i = c .before .before .before in
+    let t = i .before .before in
+    let a = t .before .before .before in
+    rw (i .enter .ensures .0, i .enter .ensures .1, t .tag-under .ensures, a .pre .1)))

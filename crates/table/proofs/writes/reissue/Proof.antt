@@ -1,4 +1,4 @@
--- `table::writes::reissue` meets its contract: the entry is entered, and the next nonce moves.
+-- `table::writes::reissue` meets its contract: the entry is entered with its tag, and the next nonce moves.
 -- Assumes nothing.
 use borrow.Author.Needs.{needs}
 use Rattle.table.proofs.writes.reissue.Statement.{statement}
@@ -10,6 +10,7 @@ reissue-spec =
     (tie.spec
     (λ c. search needs)
     (λ c κs. search needs)
+    (λ c κs. search needs)
     (λ c. search needs)
     (λ c. search needs)
-    (λ c. let i = c .before .before .before in rw (i .enter .ensures .0, i .enter .ensures .1)))
+    (λ c. let i = c .before .before .before in rw (i .enter .ensures .0, i .enter .ensures .1, i .before .before .tag-under .ensures)))

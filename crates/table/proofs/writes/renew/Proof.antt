@@ -1,6 +1,7 @@
--- `table::writes::renew` meets its contract: the entry is stored with the nonce and tag that were found.
+-- `table::writes::renew` meets its contract: the entry is entered with the nonce and tag that were found.
 -- Assumes nothing.
 use borrow.Author.Needs.{needs}
+use Rattle.layout.specs.Entry.{entryOf, wordsNumber}
 use Rattle.table.proofs.WriteLaws.{renew-left}
 use Rattle.table.proofs.writes.renew.Statement.{statement}
 use Rattle.table.proofs.writes.renew.Tie as tie
@@ -12,9 +13,8 @@ renew-spec =
     (λ c. search needs)
     (λ c κs. search needs)
     (λ c. search needs)
-    (λ c κs. search needs)
     (λ c. search needs)
     (λ c.
-    let p = c .before .before .before .before in
-    let a = p .before .before .before .before in
-    renew-left _ _ _ _ _ _ (a .args .e) _ _ (a .pre .1 .nonce) (a .pre .1 .tag) (c .token-of .ensures) (p .put-entry .ensures)))
+    let i = c .before .before .before in
+    let a = i .before .before .before .before in
+    renew-left _ _ _ _ _ _ (entryOf (wordsNumber (a .args .w))) _ _ (a .pre .1 .nonce) (a .pre .1 .tag) (i .enter .ensures .0) (i .enter .ensures .1)))
