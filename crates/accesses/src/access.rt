@@ -112,7 +112,7 @@ fn check_far(
     requires { ⌜ named ≡ tokens.named token ⌝ }
     ensures { λ r. ⌜ Carries r memory (now (table .entry)) (wayAs way) token task bytes ⌝ }
 {
-    let r = reach(table, memory, token, task);
+    let r = reach(table, memory, token, named, task);
     match r {
         Reached::Stop(why) => Transfer::Stop(why),
         Reached::Owner(_) => check_transfer(table, way, token, named, bytes),

@@ -11,7 +11,6 @@ use borrow.Author.Tests.{eq-eqb, eqb-false, le-ltb, lt-ltb, ltb-true, ne-eqb, no
 use Rattle.tokens.specs.Token.{named}
 use Rattle.layout.specs.declared.entry.Entry.{Entry}
 use Rattle.tokens.specs.declared.token.Named.{Named}
-use Rattle.bits.proofs.TestLaws.{both}
 use Rattle.machine.specs.Line.{badOf, dead, ill, isIll, isLocked, Line, lineOf, owner}
 use Rattle.machine.specs.Operations.{numberOf}
 use Rattle.machine.specs.Parts.{at, size}
@@ -21,7 +20,7 @@ use Rattle.machine.proofs.Basics.{range}
 use Rattle.machine.proofs.Decided.{passed}
 use Rattle.machine.proofs.Fuel.{line-formed}
 use Rattle.table.proofs.LineLaws.{own-owner}
-use Rattle.checks.specs.Holds.{namedHolds}
+use Rattle.checks.specs.Holds.{namedHolds, ReadAs}
 use Rattle.checks.specs.Reached.{formedVerdict, liveVerdict, Near, Reaches, reachVerdict}
 use Rattle.checks.specs.declared.reach.Reached.{Reached}
 use Rattle.checks.specs.declared.reach.Reached.the-variants as reached
@@ -34,23 +33,23 @@ numberIn (stop r) = refusalNumber r
 
 -- ---- place 2
 
-module _ (t : List ℕ) (k : ℕ) (n : Named) (is : n ≡ named k) where
-  pub entry-in : (e : Entry) → e ≡ at t (n .number) → n .number < length t / 32 → (not (eqb (e .kind) 0) && eqb (e .tag) (n .tag)) ≡ namedHolds t k
+module _ (t : List ℕ) (k n g : ℕ) (is : ReadAs k n g) where
+  pub entry-in : (e : Entry) → e ≡ at t n → n < length t / 32 → (not (eqb (e .kind) 0) && eqb (e .tag) g) ≡ namedHolds t k
   unfolding size namedHolds
-  entry-in e q h = let i : numberOf k < length t / 32 = rw is at h in rw (q, is, lt-ltb (numberOf k) (length t / 32) i)
+  entry-in e q h = rw (q, is .tagged, ← is .numbered, lt-ltb n (length t / 32) h)
 
-  pub entry-out : length t / 32 ≤ n .number → false ≡ namedHolds t k
+  pub entry-out : length t / 32 ≤ n → false ≡ namedHolds t k
   unfolding size namedHolds
-  entry-out h = let i : length t / 32 ≤ numberOf k = rw is at h in rw (le-ltb (numberOf k) (length t / 32) i)
+  entry-out h = rw (← is .numbered, le-ltb n (length t / 32) h)
+
+-- a token that is read as n is read as n's number and tag
+pub read-as : (k : ℕ) (n : Named) → n ≡ named k → ReadAs k (n .number) (n .tag)
+read-as k n is = record { numbered = ap (λ (x : Named). x .number) is; tagged = ap (λ (x : Named). x .tag) is }
 
 -- an entry that is named stands in the table
 pub size-in : (t : List ℕ) (n : ℕ) → ltb n (size t) ≡ true → 32 * n + 32 ≤ length t
 unfolding size
 size-in t n h = let i : n < length t / 32 = ltb-true _ _ h in omega arith
-
-pub named-in : (t : List ℕ) (k : ℕ) → namedHolds t k ≡ true → 32 * numberOf k + 32 ≤ length t
-unfolding namedHolds
-named-in t k h = size-in t (numberOf k) (both _ _ (both _ _ h .0) .0)
 
 module _ (m : ℕ) (t : List ℕ) (k : ℕ) where
   -- ---- places 2 to 4
@@ -168,7 +167,7 @@ module _ (m : ℕ) (t : List ℕ) (k : ℕ) (n : Named) (is : n ≡ named k) (h 
   near-named : namedHolds t k ≡ true
   near-named =
       let one = h .direct in
-      sym (entry-in t k n is (at t (n .number)) refl (h .inside))
+      sym (entry-in t k (n .number) (n .tag) (read-as k n is) (at t (n .number)) refl (h .inside))
       ∙ rw (ne-eqb (at t (n .number) .kind) 0 (λ q. absurd (omega (arith, one, q))), eq-eqb (at t (n .number) .tag) (n .tag) (h .tagged))
 
   near-line : lineOf m t (numberOf k) ≡ owner (n .number)

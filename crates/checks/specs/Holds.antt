@@ -5,7 +5,6 @@ use mathlib.Core.Bool.{Bool, true, _&&_}
 use mathlib.Core.List.{List, [], _∷_, _++_}
 use Prim.Native.Nat.{ℕ}
 use Rattle.tokens.specs.Token.{named}
-use Rattle.tokens.specs.declared.token.Named.{Named}
 use Rattle.machine.specs.Parts.{State}
 use Rattle.machine.specs.Requests.{Request}
 use Rattle.machine.specs.Stops.{isNamed, places, settings, sizes}
@@ -29,9 +28,15 @@ settingsHold m s t = allHold (sizes m t ++ settings s t)
 unfoldable pub requestHolds : ℕ → State → List ℕ → Request → List ℕ → Bool
 requestHolds m s t q b = allHold (sizes m t ++ places m s t q b .request)
 
--- place 2 holds of a token; the test b is that of every token that names n
+-- place 2 holds of a token
 unfoldable pub namedHolds : List ℕ → ℕ → Bool
 namedHolds t k = allHold (isNamed t k)
 
-abbrev pub Names : Bool → List ℕ → Named → Type 0
-Names b t n = (k : ℕ) → n ≡ named k → b ≡ namedHolds t k
+-- the token k is read as the number and the tag
+pub record ReadAs (k number tag : ℕ) : Type 0 where
+  pub numbered : number ≡ named k .number
+  pub tagged : tag ≡ named k .tag
+
+-- the test b is place 2 of every token that is read so
+abbrev pub Names : Bool → List ℕ → (number tag : ℕ) → Type 0
+Names b t n g = (k : ℕ) → ReadAs k n g → b ≡ namedHolds t k

@@ -7,14 +7,15 @@ use table::entries::entry_at;
 use table::line::Line;
 use table::line::walk;
 use tokens::token::Named;
-use tokens::token::read;
 ghost use mathlib.Core.Path.{_≡_};
 ghost use mathlib.Core.Bool.{cond, true};
+ghost use Prim.Native.Nat.{ℕ, _+_, _*_, _≤_};
 ghost use lib.Dec.{eqb};
+ghost use lib.ListN.{length};
 ghost use Rattle.machine.specs.Line as line;
 ghost use Rattle.machine.specs.Operations.{numberOf};
 ghost use Rattle.tokens.specs.Token as token;
-ghost use Rattle.checks.specs.Holds.{Names};
+ghost use Rattle.checks.specs.Holds.{Names, ReadAs};
 ghost use Rattle.checks.specs.Reached.{formedVerdict, Forms, liveVerdict, Near, Reaches, reachVerdict};
 ghost use Rattle.checks.specs.Refusals.{badAs};
 
@@ -31,12 +32,13 @@ pub enum Formed {
 }
 
 // Place 2: the number is in the table, its entry is not free and has the tag.
-fn entry_named(table: &[u8], n: Named) -> bool
-    ensures { λ r. ⌜ Names r (now (table .entry)) n ⌝ }
+fn entry_named(table: &[u8], number: u64, tag: u64) -> bool
+    ensures { λ r. ⌜ Names r (now (table .entry)) number tag ⌝ }
+    ensures { λ r. ⌜ (r ≡ true → 32 * number + 32 ≤ length (now (table .entry))) ⌝ }
 {
-    if n.number < (table.len() / 32) as u64 {
-        let e = entry_at(table, n.number as usize);
-        (e.kind != 0) & ((e.tag as u64) == n.tag)
+    if number < (table.len() / 32) as u64 {
+        let e = entry_at(table, number as usize);
+        (e.kind != 0) & ((e.tag as u64) == tag)
     } else {
         false
     }
@@ -49,15 +51,14 @@ fn bad(n: usize, k: usize) -> Bad
     if k == n { Bad::Named } else { Bad::Ancestor }
 }
 
-// Places 2 to 4.
-pub fn reach_live(table: &[u8], memory: u64, k: u64) -> Reached
-    ensures { λ r. ⌜ Reaches (now (table .entry)) r (liveVerdict memory (now (table .entry)) k) (line.lineOf memory (now (table .entry)) (numberOf k)) ⌝ }
+// Places 2 to 4 for every token that is read as the number and the tag.
+pub fn reach_live(table: &[u8], memory: u64, number: u64, tag: u64) -> Reached
+    ensures { λ r. ⌜ ((k : ℕ) → ReadAs k number tag → Reaches (now (table .entry)) r (liveVerdict memory (now (table .entry)) k) (line.lineOf memory (now (table .entry)) (numberOf k))) ⌝ }
 {
-    let named = read(k);
-    if !entry_named(table, named) {
+    if !entry_named(table, number, tag) {
         return Reached::Stop(Refusal::Entry);
     }
-    let n = named.number as usize;
+    let n = number as usize;
     let l = walk(table, memory, n);
     match l {
         Line::Owner(o) => Reached::Owner(o),
@@ -94,7 +95,7 @@ pub fn reach_near(table: &[u8], memory: u64, k: u64, n: Named) -> Reached
     if near(table, memory, n) {
         Reached::Owner(n.number as usize)
     } else {
-        reach_live(table, memory, k)
+        reach_live(table, memory, n.number, n.tag)
     }
 }
 
@@ -138,9 +139,16 @@ pub fn opens(table: &[u8], memory: u64, k: u64, task: u64, r: Reached) -> Reache
     }
 }
 
-// Places 2 to 5.
-pub fn reach(table: &[u8], memory: u64, k: u64, task: u64) -> Reached
+// Places 2 to 5 for the token k, which is read as n.
+pub fn reach(table: &[u8], memory: u64, k: u64, n: Named, task: u64) -> Reached
+    requires { ⌜ n ≡ token.named k ⌝ }
     ensures { λ r. ⌜ Reaches (now (table .entry)) r (reachVerdict memory (now (table .entry)) k task) (line.lineOf memory (now (table .entry)) (numberOf k)) ⌝ }
 {
-    opens(table, memory, k, task, reach_live(table, memory, k))
+    opens(
+        table,
+        memory,
+        k,
+        task,
+        reach_live(table, memory, n.number, n.tag),
+    )
 }

@@ -1,5 +1,8 @@
 -- `checks::reach::entry_named` meets its contract: beyond the table nothing is named.
 -- Assumes nothing.
+use mathlib.Core.Path.{_≡_, sym}
+use mathlib.Core.Bool.{true≢false}
+use native.Mathlib.Omega.{arith}
 use borrow.Author.Needs.{needs}
 use Rattle.checks.proofs.ReachLaws.{entry-in, entry-out}
 use Rattle.checks.proofs.reach.entry_named.Statement.{statement}
@@ -11,5 +14,7 @@ entry-named-spec =
     (tie.spec
     (λ c κs. search needs)
     (λ c. search needs)
-    (λ c k is. let e = c .before .before .before in entry-in _ k _ is (e .entry-at .result) (e .entry-at .ensures) (e .before .if1 .taken))
-    (λ c k is. entry-out _ k _ is (c .if1 .left)))
+    (λ c.
+    let e = c .before .before in
+    ((λ k is. entry-in _ k _ _ is (e .entry-at .result) (e .entry-at .ensures) (e .before .if1 .taken)), (λ h. omega arith)))
+    (λ c. ((λ k is. entry-out _ k _ _ is (c .if1 .left)), (λ h. absurd (true≢false (sym h))))))
