@@ -17,9 +17,9 @@ use crate::thread::Stack;
 /// The deepest line: a table has 1,024 entries, and one of them is the owner.
 pub const DEEPEST: usize = 1_023;
 
-/// No call may need more stack than this. A drop calls itself once for each link that it climbs: 80
-/// bytes for each of 1,023 links, and 4,096 for all that stands above them.
-pub const BOUND: usize = DEEPEST * 80 + 4_096;
+/// No call may need more stack than this, however long the line is: a drop that climbs nests a few
+/// calls of itself at most.
+pub const BOUND: usize = 2_048;
 
 /// The stack to measure on, well above the bound.
 const SIZE: usize = 4 << 20;

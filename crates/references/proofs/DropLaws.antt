@@ -9,7 +9,7 @@ use native.Mathlib.Omega.{arith}
 use native.Mathlib.Decide.{decLt}
 use lib.Dec.{eqb, leb}
 use lib.ListN.{length}
-use borrow.Author.Tests.{le-leb, lt-leb, ne-eqb}
+use borrow.Author.Tests.{eqb-false, eqb-true, le-leb, lt-leb, ne-eqb, not-true}
 use Rattle.bits.proofs.TestLaws.{both}
 use Rattle.layout.specs.Entry.{free, recounted}
 use Rattle.layout.specs.declared.entry.Entry.{Entry}
@@ -36,13 +36,17 @@ use Rattle.rulings.specs.Rulings.{granting, handed, plainly, tokensOn, verdictO
 use Rattle.rulings.specs.declared.reply.Outcome.{Outcome}
 use Rattle.rulings.proofs.AllotLaws.{request-limits}
 use Rattle.rulings.proofs.RulingLaws.{rest-alone, token-passes, tokens-passed}
-use Rattle.references.specs.Climbs.{Climbed, climbed}
+use Rattle.references.specs.Climbs.{Ahead, Climbed, climbed, Climbs, Onward, yet}
 
 -- ---- the climb
 
 climbed-fuel : (s : State) (f g : ℕ) (t : List ℕ) (n : ℕ) → at t n .nonce < f → at t n .nonce < g → climbed s f t n ≡ climbed s g t n
 unfolding climbed
 climbed-fuel s f g t n h i = ap (λ (ws : List Write). written 0 (opened s t) ws .table) (climb-fuel f g t n h i)
+
+-- a direct entry with a count has a holder to lose
+pub direct-some : (k n : ℕ) → (eqb k 1 && not (eqb n 0)) ≡ true → n ≡ 0 → ⊥
+direct-some k n h = eqb-false n 0 (not-true _ (both (eqb k 1) (not (eqb n 0)) h .1))
 
 -- the ways on from entry n, which is e
 module _ (t : List ℕ) (n : ℕ) (e : Entry) (is : e ≡ at t n) (s : State) where
@@ -65,8 +69,8 @@ module _ (t : List ℕ) (n : ℕ) (e : Entry) (is : e ≡ at t n) (s : State) wh
   pub climb-none : e .count ≡ 0 → t ≡ climbed s (suc (at t n .nonce)) t n
   climb-none z = sym (step ∙ rw z)
 
-  pub climb-less : (e .count ≡ 0 → ⊥) → (leb 2 (e .count) || eqb (e .kind) 1) ≡ true → put t n (recounted e (e .count - 1)) ≡ climbed s (suc (at t n .nonce)) t n
-  climb-less some h = go (decLt (e .count) 2)
+  less : (e .count ≡ 0 → ⊥) → (leb 2 (e .count) || eqb (e .kind) 1) ≡ true → put t n (recounted e (e .count - 1)) ≡ climbed s (suc (at t n .nonce)) t n
+  less some h = go (decLt (e .count) 2)
     where
       go : Dec (e .count < 2) → put t n (recounted e (e .count - 1)) ≡ climbed s (suc (at t n .nonce)) t n
       go (yes l) =
@@ -76,40 +80,102 @@ module _ (t : List ℕ) (n : ℕ) (e : Entry) (is : e ≡ at t n) (s : State) wh
           sym (step ∙ rw (few, ne-eqb (e .count) 0 some, direct, ← one))
       go (no l) = sym (step ∙ rw (le-leb 2 (e .count) (omega arith)))
 
--- entry n, which is e, has lost its last holder and is not direct; b says whether its link holds
-pub record Lost (t : List ℕ) (n : ℕ) (e : Entry) (b : Bool) : Type 0 where
-  pub is : e ≡ at t n
-  pub some : e .count ≡ 0 → ⊥
-  pub last : (leb 2 (e .count) || eqb (e .kind) 1) ≡ false
-  pub link : b ≡ linked t e
+  -- an entry that stays falls by one; x is read for it
+  pub climb-less : (x : Entry) (t′ : List ℕ) → (e .count ≡ 0 → ⊥) → (leb 2 (e .count) || eqb (e .kind) 1) ≡ true → x ≡ at t n → t′ ≡ put t n (recounted x (e .count - 1)) → t′ ≡ climbed s (suc (at t n .nonce)) t n
+  climb-less x t′ some h read gone = rw (read, ← is) at gone ∙ less some h
+
+  -- so does a direct entry with a count
+  pub climb-direct : (x : Entry) (t′ : List ℕ) → (eqb (e .kind) 1 && not (eqb (e .count) 0)) ≡ true → x ≡ at t n → t′ ≡ put t n (recounted x (e .count - 1)) → t′ ≡ climbed s (suc (at t n .nonce)) t n
+  climb-direct x t′ h = climb-less x t′ (direct-some (e .kind) (e .count) h) (rw (both (eqb (e .kind) 1) (not (eqb (e .count) 0)) h .0) (either (leb 2 (e .count))))
+    where
+      either : (b : Bool) → (b || true) ≡ true
+      either true = refl
+      either false = refl
+
+-- how far a climb has come
+
+pub climb-ended : {t : List ℕ} {n : ℕ} {t′ : List ℕ} → Climbed t n t′ → Climbs t n t′ 0
+unfolding yet
+climb-ended h = record { ahead = record { ended = λ z. h; onward = λ z. absurd (z refl) }; older = omega arith }
+
+yet-some : (t : List ℕ) (r : ℕ) → (r ≡ 0 → ⊥) → yet t r ≡ suc (at t (r - 1) .nonce)
+unfolding yet
+yet-some t r some = rw (ne-eqb r 0 some)
+
+before : (p : ℕ) → p + 1 - 1 ≡ p
+before p = omega arith
+
+yet-next : (t : List ℕ) (p : ℕ) → yet t (p + 1) ≡ suc (at t p .nonce)
+yet-next t p = rw (before p) at (yet-some t (p + 1) (λ z. omega arith))
+
+pub ahead-next : {t : List ℕ} {n : ℕ} {t′ : List ℕ} {p : ℕ} → Onward t n t′ p → Ahead t n t′ (p + 1)
+ahead-next {p = p} o = record { ended = λ z. absurd (omega arith); onward = λ z. rw (before p) o }
+
+further : {t : List ℕ} {n : ℕ} {t′ : List ℕ} {p : ℕ} → Onward t n t′ p → {t″ : List ℕ} {r : ℕ} → Ahead t′ p t″ r → Ahead t n t″ r
+further o h =
+    record { ended = λ z. o .rest _ (h .ended z); onward = λ z. let q = h .onward z in record { inside = q .inside; rest = λ t‴ i. o .rest t‴ (q .rest t‴ i) } }
+
+-- a turn of the loop
+module _ (t′ : List ℕ) (r : ℕ) (t″ : List ℕ) (r′ : ℕ) (some : r ≡ 0 → ⊥) (h : Climbs t′ (r - 1) t″ r′) where
+  pub yet-less : yet t″ r′ < yet t′ r
+  yet-less = omega (arith, h .older, yet-some t′ r some)
+
+  pub ahead-on : (t : List ℕ) (n : ℕ) → Ahead t n t′ r → Ahead t n t″ r′
+  ahead-on t n a = further (a .onward some) (h .ahead)
 
 neither : (a b : Bool) → (a || b) ≡ false → (a ≡ false) × (b ≡ false)
 neither false b h = (refl, h)
 neither true b h = let z : _≡_ {A = ℕ} 0 1 = cc in absurd (omega arith)
 
--- it is freed, and t′ is left
-module _ {t : List ℕ} {n : ℕ} {e : Entry} {b : Bool} (w : Lost t n e b) {t′ : List ℕ} (gone : t′ ≡ vacated t n) where
+-- entry n, which is e, has lost its last holder and is not direct, and is freed; b says whether its link holds
+module _ (t : List ℕ) (n : ℕ) (e : Entry) (b : Bool) (t′ : List ℕ) (is : e ≡ at t n) (some : e .count ≡ 0 → ⊥) (last : (leb 2 (e .count) || eqb (e .kind) 1) ≡ false) (link : b ≡ linked t e) (gone : t′ ≡ vacated t n) where
   freed : (s : State) → climbed s (suc (at t n .nonce)) t n ≡ cond b (climbed s (at t n .nonce) t′ (parentNumber e)) t′
   freed s =
-      let q = neither (leb 2 (e .count)) (eqb (e .kind) 1) (w .last) in
-      step t n e (w .is) s ∙ rw (q .0, ne-eqb (e .count) 0 (w .some), q .1, ← w .link, gone)
+      let q = neither (leb 2 (e .count)) (eqb (e .kind) 1) last in
+      step t n e is s ∙ rw (q .0, ne-eqb (e .count) 0 some, q .1, ← link, gone)
 
   pub climb-freed : b ≡ false → Climbed t n t′
   climb-freed h s = sym (freed s ∙ rw h)
 
   -- the parent is another entry and older, and stays when the child is freed
-  module _ {p : ℕ} (q : p ≡ parentNumber e) (l : b ≡ true) where
+  module _ (p : ℕ) (q : p ≡ parentNumber e) (l : b ≡ true) where
     older : at t′ p .nonce < at t n .nonce
     older =
-        let o : at t p .nonce < at t n .nonce = walk-less t n p e b (w .is) (w .link) q l in
+        let o : at t p .nonce < at t n .nonce = walk-less t n p e b is link q l in
         let apart : p ≢ n = λ r. omega (arith, ap (λ (k : ℕ). at t k .nonce) r) in
         rw (gone, at-other t n p free apart) o
 
-    pub climb-on : (at t′ p .nonce < at t n .nonce) × (32 * p + 32 ≤ length t′)
-    climb-on = (older, rw (gone, length-put) (walk-in t n p e b (w .is) (w .link) q l))
+    onward : Onward t n t′ p
+    onward =
+        record {
+          inside = rw (gone, length-put) (walk-in t n p e b is link q l);
+          rest = λ t″ h s. h s ∙ climbed-fuel s (suc (at t′ p .nonce)) (at t n .nonce) t′ p (omega arith) older ∙ sym (freed s ∙ rw (l, ← q));
+        }
 
-    pub climb-up : {t″ : List ℕ} → Climbed t′ p t″ → Climbed t n t″
-    climb-up h s = h s ∙ climbed-fuel s (suc (at t′ p .nonce)) (at t n .nonce) t′ p (omega arith) older ∙ sym (freed s ∙ rw (l, ← q))
+    pub climb-in : 32 * p + 32 ≤ length t′
+    climb-in = onward .inside
+
+    pub climb-next : Climbs t n t′ (p + 1)
+    climb-next = record { ahead = ahead-next onward; older = rw (yet-next t′ p) older }
+
+    pub climb-up : (t″ : List ℕ) (r : ℕ) → Climbs t′ p t″ r → Climbs t n t″ r
+    climb-up t″ r h = record { ahead = further onward (h .ahead); older = omega (arith, older) }
+
+-- an indirect entry at count 1 that is linked is freed, and its parent dropped
+module _ (t : List ℕ) (n : ℕ) (e : Entry) (b : Bool) (t′ : List ℕ) (p : ℕ) (is : e ≡ at t n) (link : b ≡ linked t e) (h : ((eqb (e .kind) 2 && eqb (e .count) 1) && b) ≡ true) (gone : t′ ≡ vacated t n) (q : p ≡ parentNumber e) where
+  fallen : Onward t n t′ p
+  fallen =
+      let l = both (eqb (e .kind) 2 && eqb (e .count) 1) b h in
+      let k = both (eqb (e .kind) 2) (eqb (e .count) 1) (l .0) in
+      let kind = eqb-true (e .kind) 2 (k .0) in
+      let one = eqb-true (e .count) 1 (k .1) in
+      onward t n e b t′ is (λ z. omega arith) (rw (one, kind)) link gone p q (l .1)
+
+  pub fall-in : 32 * p + 32 ≤ length t′
+  fall-in = fallen .inside
+
+  pub fall-up : (t″ : List ℕ) → Climbed t′ p t″ → Climbed t n t″
+  fall-up = fallen .rest
 
 -- ---- the checks
 

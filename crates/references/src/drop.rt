@@ -28,30 +28,53 @@ ghost use Rattle.machine.specs.Steps.{pass};
 ghost use Rattle.table.specs.States.{stateAs};
 ghost use Rattle.tokens.specs.Token as tokens;
 ghost use Rattle.rulings.specs.Rulings.{granting, handed, rulingOn, verdictOn};
-ghost use Rattle.references.specs.Climbs.{Climbed};
+ghost use Rattle.references.specs.Climbs.{Climbed, Climbs};
 
-// Drops entry n, and its parent if the entry is freed and the link holds. A count of 0 stays.
-fn climb(table: &mut [u8], n: usize)
+// The calls that a call of `climb` may nest: so few that a processor predicts each return, and that
+// the stack stays small however long the line is.
+const NESTED: u64 = 7;
+
+// Drops entry n, and its parent if the entry is freed and the link holds. A count of 0 stays. Gives
+// 0 at the end, and where the calls are used up one more than the number that is to be dropped next.
+fn climb(table: &mut [u8], n: usize, calls: u64) -> usize
     requires { ⌜ 32 * n + 32 ≤ length (now table) ⌝ }
-    ensures { λ _. ⌜ Climbed (now (table .entry)) n (now (table .exit)) ⌝ }
+    ensures { λ r. ⌜ Climbs (now (table .entry)) n (now (table .exit)) r ⌝ }
 {
     let e = entry_at(table, n);
     if e.count == 0 {
-        return;
+        return 0;
     }
     if (2 <= e.count) | (e.kind == 1) {
         recount(table, n, words_at(table, n), e.count - 1);
-        return;
+        return 0;
     }
     let up = linked(table, e);
     vacate(table, n);
     if up {
-        climb(table, parent_number(e) as usize);
+        let p = parent_number(e) as usize;
+        if calls == 0 {
+            p + 1
+        } else {
+            climb(table, p, calls - 1)
+        }
+    } else {
+        0
+    }
+}
+
+// The same to its end.
+fn climb_on(table: &mut [u8], n: usize)
+    requires { ⌜ 32 * n + 32 ≤ length (now table) ⌝ }
+    ensures { λ _. ⌜ Climbed (now (table .entry)) n (now (table .exit)) ⌝ }
+{
+    let mut next = n + 1;
+    while next != 0 {
+        next = climb(table, next - 1, NESTED);
     }
 }
 
 // The same, quick where entry n is direct: it stays, so that nothing climbs.
-fn fall(table: &mut [u8], n: usize)
+fn settle(table: &mut [u8], n: usize)
     requires { ⌜ 32 * n + 32 ≤ length (now table) ⌝ }
     ensures { λ _. ⌜ Climbed (now (table .entry)) n (now (table .exit)) ⌝ }
 {
@@ -59,7 +82,26 @@ fn fall(table: &mut [u8], n: usize)
     if (e.kind == 1) & (e.count != 0) {
         recount(table, n, words_at(table, n), e.count - 1);
     } else {
-        climb(table, n);
+        climb_on(table, n);
+    }
+}
+
+// The same, quick also where entry n is freed and its parent is direct.
+fn fall(table: &mut [u8], n: usize)
+    requires { ⌜ 32 * n + 32 ≤ length (now table) ⌝ }
+    ensures { λ _. ⌜ Climbed (now (table .entry)) n (now (table .exit)) ⌝ }
+{
+    let e = entry_at(table, n);
+    if (e.kind == 1) & (e.count != 0) {
+        recount(table, n, words_at(table, n), e.count - 1);
+        return;
+    }
+    if (e.kind == 2) & (e.count == 1) & linked(table, e) {
+        let p = parent_number(e) as usize;
+        vacate(table, n);
+        settle(table, p);
+    } else {
+        climb_on(table, n);
     }
 }
 
