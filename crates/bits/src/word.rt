@@ -6,7 +6,7 @@ ghost use Rattle.bits.specs.Bytes.{bytes, lowBytes, lowNumber, number};
 ghost use Rattle.bits.specs.Fields.{pack};
 
 // The word of eight bytes, the high byte first.
-pub fn joined(a: u8, b: u8, c: u8, d: u8, e: u8, f: u8, g: u8, h: u8) -> u64
+pub(crate) fn joined(a: u8, b: u8, c: u8, d: u8, e: u8, f: u8, g: u8, h: u8) -> u64
     ensures { λ r. ⌜ r ≡ pack (replicate 8 8) (a ∷ b ∷ c ∷ d ∷ e ∷ f ∷ g ∷ h ∷ []) ⌝ }
 {
     let high = (((a as u64) * 256 + (b as u64)) * 256 + (c as u64)) * 256 + (d as u64);

@@ -52,7 +52,7 @@ fn bad(n: usize, k: usize) -> Bad
 }
 
 // Places 2 to 4 for every token that is read as the number and the tag.
-pub fn reach_live(table: &[u8], memory: u64, number: u64, tag: u64) -> Reached
+fn reach_live(table: &[u8], memory: u64, number: u64, tag: u64) -> Reached
     ensures { λ r. ⌜ ((k : ℕ) → ReadAs k number tag → Reaches (now (table .entry)) r (liveVerdict memory (now (table .entry)) k) (line.lineOf memory (now (table .entry)) (numberOf k))) ⌝ }
 {
     if !entry_named(table, number, tag) {

@@ -146,7 +146,7 @@ fn indirect_words(e: Entry) -> Words
 }
 
 // The words of an entry. A type above 2 has no layout here and gives those of a free entry.
-pub(crate) fn words_of(e: Entry) -> Words
+fn words_of(e: Entry) -> Words
     requires { ⌜ Fits e ⌝ }
     ensures { λ r. ⌜ wordsNumber r ≡ entryNumber e ⌝ }
 {
@@ -345,7 +345,7 @@ pub fn load(part: &[u8]) -> Entry
 }
 
 // The entry is stored as 32 bytes.
-pub fn store(part: &mut [u8], e: Entry)
+fn store(part: &mut [u8], e: Entry)
     requires { ⌜ length (now part) ≡ 32 ⌝ }
     requires { ⌜ Fits e ⌝ }
     ensures { λ _. ⌜ now (part .exit) ≡ entryBytes e ⌝ }
@@ -390,7 +390,7 @@ pub fn free_words() -> Words
 }
 
 // A free entry.
-pub fn free() -> Entry
+fn free() -> Entry
     ensures { λ r. ⌜ r ≡ free ⌝ }
 {
     end_of(0, 0)
@@ -421,7 +421,7 @@ pub fn direct(
 }
 
 // An indirect entry as it is issued: count 1.
-pub fn indirect(base: u32, length: u32, parent: u64, permissions: u8, tag: u16, nonce: u32) -> Entry
+fn indirect(base: u32, length: u32, parent: u64, permissions: u8, tag: u16, nonce: u32) -> Entry
     ensures { λ r. ⌜ r ≡ indirect base length parent permissions tag nonce ⌝ }
 {
     let mut e = free();

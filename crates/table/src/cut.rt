@@ -74,7 +74,7 @@ fn read_cut(part: &[u8]) -> Cut
 }
 
 // The entry whose first byte is the given one, in parts.
-pub fn cut_at(table: &[u8], byte: usize) -> Cut
+pub(crate) fn cut_at(table: &[u8], byte: usize) -> Cut
     requires { ⌜ (byte % 32 ≡ 0) × (byte + 32 ≤ length (now table)) ⌝ }
     ensures { λ r. ⌜ Bounded r × (entryOf (wordsNumber (cutWords r)) ≡ at (now (table .entry)) (byte / 32)) ⌝ }
 {
@@ -83,7 +83,7 @@ pub fn cut_at(table: &[u8], byte: usize) -> Cut
 }
 
 // The entry is indirect and well-formed, and its parent's number is in a table of so many bytes.
-pub fn passes(memory: u64, room: u64, c: Cut) -> bool
+pub(crate) fn passes(memory: u64, room: u64, c: Cut) -> bool
     ensures { λ r. ⌜ r ≡ passes memory room c ⌝ }
 {
     let base = (c.a >> 29) % (1 << 32);
@@ -105,7 +105,7 @@ pub fn passes(memory: u64, room: u64, c: Cut) -> bool
 
 // The entry p has the tag that c names, is older and not free. Tag and nonce are told by one
 // difference: below c's nonce only if the tags are the same.
-pub fn above(p: Cut, c: Cut) -> bool
+pub(crate) fn above(p: Cut, c: Cut) -> bool
     ensures { λ r. ⌜ (r ≡ true → Above p c) ⌝ }
 {
     let tag = (c.a >> 11) % (1 << 16) * 4294967296;
