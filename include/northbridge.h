@@ -292,7 +292,7 @@ static inline struct northbridge_answer northbridge_merge(
     return northbridge_ask(bridge, &request, NULL, 0);
 }
 
-/* A child over a part of what the token names; offset + length is less than the parent's length. First: the child's token. */
+/* A child over a part of what the token names, or over all of it; offset + length is at most the parent's length. First: the child's token. */
 static inline struct northbridge_answer northbridge_derive(
     struct northbridge *bridge, uint64_t token, uint64_t offset, uint64_t length, uint64_t permissions, uint64_t encoding)
 {

@@ -26,7 +26,7 @@ static struct northbridge begun(void)
     return bridge;
 }
 
-/* Paper 01's session. */
+/* Paper 01's session, case 6 as paper 1 of 02 has it. */
 static void fifteen_cases(void)
 {
     struct northbridge b = northbridge_over(table, 4 * NORTHBRIDGE_ENTRY_SIZE, memory, sizeof memory);
@@ -38,7 +38,7 @@ static void fifteen_cases(void)
     CHECK(northbridge_read(&b, northbridge_at(0, 65536), 0, buffer, 1).refusal == NORTHBRIDGE_BOUNDS);
     CHECK(northbridge_read(&b, northbridge_at(0, 65525), 0, buffer, 12).refusal == NORTHBRIDGE_BOUNDS);
     child = northbridge_derive(&b, 0, 0, 65535, NORTHBRIDGE_R, 0).first;
-    CHECK(northbridge_derive(&b, 0, 0, 65536, NORTHBRIDGE_R, 0).refusal == NORTHBRIDGE_BOUNDS);
+    CHECK(northbridge_derive(&b, 0, 0, 65536, NORTHBRIDGE_R, 0).refusal == 0);
     CHECK(northbridge_create(&b, 0, 0, 4096, 0, NORTHBRIDGE_R, 0).refusal == NORTHBRIDGE_STANDING);
     CHECK(northbridge_lock(&b, 0, 0).refusal == NORTHBRIDGE_BAD_REQUEST);
     CHECK(northbridge_lock(&b, 0, 7).refusal == 0);

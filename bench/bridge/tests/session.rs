@@ -1,4 +1,4 @@
-//! Paper 01's session through the wrapper.
+//! Paper 01's session through the wrapper, case 6 as paper 1 of 02 has it.
 
 use bridge::{Encoding, Granted, Northbridge, Permissions, Place, Refusal, Request, Task, Token};
 
@@ -16,7 +16,8 @@ fn session_of_fifteen_cases() {
     assert_eq!(bridge.read(at(65_536), Task::NONE, &mut [0; 1]), Err(Refusal::Bounds));
     assert_eq!(bridge.read(at(65_525), Task::NONE, &mut [0; 12]), Err(Refusal::Bounds));
     let child = bridge.ask(&derive(65_535)).unwrap().first;
-    assert_eq!(bridge.ask(&derive(65_536)), Err(Refusal::Bounds));
+    assert!(bridge.ask(&derive(65_536)).is_ok());
+    assert_eq!(bridge.ask(&derive(65_537)), Err(Refusal::Bounds));
     let (task, length, user) = (Task::NONE, 4_096, 0);
     let create = Request::Create { token: root, task, length, user, permissions, encoding };
     assert_eq!(bridge.ask(&create), Err(Refusal::Standing));

@@ -27,9 +27,14 @@ pub enum Event {
     TooMuchMemory,
     TooManyEntries,
     DeepestLine,
+    DerivedWhole,
+    DerivedOneByte,
+    DerivedToTheEnd,
+    DerivedPastTheEnd,
+    DerivedPastWords,
 }
 
-pub const EVENTS: [(Event, &str); 14] = [
+pub const EVENTS: [(Event, &str); 19] = [
     (Event::PassedOne, "a revoke passed over one nonce"),
     (Event::PassedTwo, "a revoke passed over two nonces"),
     (Event::RefusedByPassing, "a revoke was refused since all nonces left were passed over"),
@@ -44,6 +49,11 @@ pub const EVENTS: [(Event, &str); 14] = [
     (Event::TooMuchMemory, "a request over 16,777,217 bytes was refused"),
     (Event::TooManyEntries, "a request over 1,025 entries was refused"),
     (Event::DeepestLine, "a line of 1,023 links was walked"),
+    (Event::DerivedWhole, "a derive of the whole was granted"),
+    (Event::DerivedOneByte, "a derive of one byte, the whole, was granted"),
+    (Event::DerivedToTheEnd, "a derive from an offset up to the end was granted"),
+    (Event::DerivedPastTheEnd, "a derive one byte past the end was refused"),
+    (Event::DerivedPastWords, "a derive with a sum beyond 64 bits was refused"),
 ];
 
 #[derive(Clone, Debug, Default, PartialEq, Eq)]
@@ -66,6 +76,7 @@ impl Events {
         }
         match operation {
             Some(Operation::Revoke) => self.revoke(&seen),
+            Some(Operation::Derive) => self.derive(&seen),
             Some(Operation::Clone) => self.add(Event::CountAtTop, seen.count_at_top()),
             Some(Operation::Read) => {
                 self.add(Event::LinkRefusedByNonce, seen.link_refused_by_nonce());
@@ -92,6 +103,18 @@ impl Events {
         self.add(Event::PassedTwo, used == 3);
         let left = seen.before.next_nonce < SPENT;
         self.add(Event::RefusedByPassing, seen.reply.refusal == Check::Nonces as u64 && left);
+    }
+
+    fn derive(&mut self, seen: &Seen) {
+        let (offset, whole) = (seen.request.second, seen.entry(seen.named()).length());
+        let end = seen.request.length.checked_add(offset);
+        let reached = seen.reply.refusal == 0 && end == Some(whole);
+        self.add(Event::DerivedWhole, reached && offset == 0);
+        self.add(Event::DerivedOneByte, reached && whole == 1);
+        self.add(Event::DerivedToTheEnd, reached && offset != 0);
+        let refused = seen.reply.refusal == Check::Bounds as u64;
+        self.add(Event::DerivedPastTheEnd, refused && end == Some(whole + 1));
+        self.add(Event::DerivedPastWords, refused && end.is_none());
     }
 
     fn given(&mut self, seen: &Seen) {

@@ -260,16 +260,16 @@ fn neighbour(player: &mut Player, entry: &Entry) -> u64 {
     token(player, number, &second)
 }
 
-/// An offset for a part of a length: inside, at an end, beyond, or with a sum that wraps.
+/// An offset for a part of a length: inside, up to the end, one beyond, or with a sum that wraps.
 fn offset(player: &mut Player, whole: u64, length: u64) -> u64 {
     let room = whole.saturating_sub(length);
     match player.dice.below(16) {
-        0 => room,
+        0 => room + 1,
         1 => player.dice.one_of(&[whole, 1 << 32, u64::MAX]),
         2 => 0u64.wrapping_sub(length),
         3 => 1u64.wrapping_sub(length),
-        4 | 5 => room.saturating_sub(1),
+        4 | 5 => room,
         6..=8 => 0,
-        _ => player.dice.below(room.max(1)),
+        _ => player.dice.between(0, room),
     }
 }

@@ -73,9 +73,18 @@ fn shrunk_to_a_reset_and_what_is_needed() {
 struct Stranger(Proved);
 
 impl Stranger {
-    fn is_derived(&self, token: u64) -> bool {
-        let number = Token::unpack(token).number as usize;
-        Entry::of(self.0.table(), number).kind() == entry::INDIRECT
+    fn named(&self, token: u64) -> Entry {
+        Entry::of(self.0.table(), Token::unpack(token).number as usize)
+    }
+
+    /// Whether a token whose line holds is a derived one under a lock.
+    fn is_derived_under_lock(&self, token: u64) -> bool {
+        let mut entry = self.named(token);
+        let derived = entry.kind() == entry::INDIRECT;
+        while entry.kind() == entry::INDIRECT {
+            entry = self.named(entry.get(entry::PARENT));
+        }
+        derived && entry.get(entry::LOCKED) == 1
     }
 }
 
@@ -89,11 +98,9 @@ impl Machine for Stranger {
     }
 
     fn serve(&mut self, request: &Words, buffer: &mut [u8]) -> Result<Reply, Trouble> {
-        let derived = self.is_derived(request.token);
         let reply = self.0.serve(request, buffer)?;
         let read = request.operation == Operation::Read as u64 && reply.refusal == 0;
-        let owner = Entry::of(self.0.table(), 0);
-        let wrong = read && derived && owner.get(entry::LOCKED) == 1;
+        let wrong = read && self.is_derived_under_lock(request.token);
         Ok(if wrong { Reply { refusal: Check::Lock as u64, ..reply } } else { reply })
     }
 

@@ -15,15 +15,16 @@ fn raised(count: u16) -> Result<u16, Refusal> {
 }
 
 impl Machine<'_> {
-    /// "length + offset < the segment's length (as printed), permissions
-    /// within the parent's"
+    /// "length at least 1, length + offset < the segment's length (as printed),
+    /// permissions within the parent's", the sum as 02 has it.
     pub fn derive(&mut self, request: &Request) -> Result<Answer, Refusal> {
         let (parent, _) = self.table.line(request.token)?;
         let wanted = request.permissions as u8;
         need(lie_within(wanted, parent.entry.permissions), Refusal::Right)?;
-        // A sum beyond 64 bits is beyond every segment.
+        // 02, paper 1: "From now on length + offset may equal the segment's
+        // length." A sum beyond 64 bits is beyond every segment.
         let end = request.length.checked_add(request.second);
-        let inside = end.is_some_and(|end| end < u64::from(parent.entry.length));
+        let inside = end.is_some_and(|end| end <= u64::from(parent.entry.length));
         need(inside, Refusal::Bounds)?;
         let base = parent.entry.base + request.second as u32;
         self.give_child(parent, base, request.length as u32, wanted, request.encoding)

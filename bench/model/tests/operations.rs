@@ -146,6 +146,52 @@ fn derive_and_execute_only() {
     assert_eq!((c.refusal, rig.base(3), rig.permissions(3)), (0, 11, 0));
 }
 
+/// 02, paper 1: "The weigher hands its complete buffer to a card."
+#[test]
+fn a_buffer_is_passed_on_whole() {
+    let mut rig = Rig::new(64, 6);
+    let buffer = rig.create(0, 16, 7).first;
+    let card = rig.derive(buffer, 0, 16, 6);
+    assert_eq!(card.refusal, 0);
+    assert_eq!((rig.kind(2), rig.base(2), rig.length(2), rig.count(2)), (2, 0, 16, 1));
+    assert_eq!((rig.permissions(2), rig.count(1)), (6, 1));
+    assert_eq!(rig.parent(2), 1 << 62 | rig.tag(1) << 46 | 1);
+    assert_eq!(rig.tag(2), fresh_tag(&rig, 2));
+    assert_eq!(rig.write(card.first, &[5; 16], 0), 0);
+    assert_eq!((&rig.memory[..16], &rig.memory[16..]), (&[5; 16][..], &[0; 48][..]));
+    assert_eq!(rig.access(READ, card.first + 15, 1, 0), 0);
+    assert_eq!(rig.access(READ, card.first + 15, 2, 0), 8);
+    // The card passes it on whole once more, and a part of that up to its end.
+    let whole = rig.derive(card.first, 0, 16, 4).first;
+    assert_eq!((rig.base(3), rig.length(3), rig.count(2)), (0, 16, 2));
+    let part = rig.derive(whole, 10, 6, 4).first;
+    assert_eq!((rig.base(4), rig.length(4), rig.count(3)), (10, 6, 2));
+    assert_eq!(rig.read(part, 6, 0), Ok(vec![5; 6]));
+    assert_eq!(rig.access(READ, part + 6, 1, 0), 8);
+    // An execute-only child had no sum before, and has none now.
+    assert_eq!(rig.simple(EXECUTE_ONLY, buffer).refusal, 0);
+    assert_eq!((rig.base(5), rig.length(5), rig.permissions(5)), (0, 16, 1));
+}
+
+/// 02, paper 1: "The printed condition also forbids any derive of a one-byte
+/// segment."
+#[test]
+fn a_segment_of_one_byte_has_children() {
+    // All of memory is one byte.
+    let mut rig = Rig::new(1, 4);
+    let child = rig.derive(0, 0, 1, 7).first;
+    let below = rig.derive(child, 0, 1, 6).first;
+    assert_eq!((rig.base(1), rig.length(1), rig.base(2), rig.length(2)), (0, 1, 0, 1));
+    assert_eq!((rig.write(below, &[9], 0), rig.read(0, 1, 0)), (0, Ok(vec![9])));
+    assert_eq!((rig.derive(below, 0, 2, 4).refusal, rig.derive(below, 1, 1, 4).refusal), (8, 8));
+    // The last byte of a larger one.
+    let mut rig = Rig::new(64, 4);
+    let last = rig.derive(0, 63, 1, 7).first;
+    let below = rig.derive(last, 0, 1, 7).first;
+    assert_eq!((rig.base(1), rig.length(1), rig.base(2), rig.length(2)), (63, 1, 63, 1));
+    assert_eq!((rig.write(below, &[9], 0), rig.read(63, 1, 0)), (0, Ok(vec![9])));
+}
+
 #[test]
 fn drop_falls_and_climbs() {
     let line = || {

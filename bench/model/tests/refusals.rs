@@ -288,24 +288,64 @@ fn children_go_down_the_table() {
     let mut rig = Rig::new(64, 2);
     let token = rig.create(0, 64, 4).first;
     assert_eq!(rig.simple(EXECUTE_ONLY, token).refusal, 7);
-    assert_eq!(rig.derive(token, 0, 64, 6).refusal, 7);
+    assert_eq!(rig.derive(token, 0, 65, 6).refusal, 7);
     rig.set_count(1, 65_535);
-    assert_eq!(rig.derive(token, 0, 64, 4).refusal, 8);
-    assert_eq!(rig.derive(token, 63, 1, 4).refusal, 8);
+    assert_eq!(rig.derive(token, 0, 65, 4).refusal, 8);
+    assert_eq!(rig.derive(token, 64, 1, 4).refusal, 8);
     assert_eq!(rig.derive(token, u64::MAX, 1, 4).refusal, 8);
     assert_eq!(rig.derive(token, u64::MAX, u64::MAX, 4).refusal, 8);
-    assert_eq!(rig.derive(token, 62, 1, 4).refusal, 9);
+    assert_eq!(rig.derive(token, 0, 64, 4).refusal, 9);
+    assert_eq!(rig.derive(token, 63, 1, 4).refusal, 9);
     assert_eq!(rig.simple(CLONE, token).refusal, 9);
     rig.set_count(1, 65_534);
     rig.state.next = SPENT;
-    assert_eq!(rig.derive(token, 62, 1, 4).refusal, 10);
+    assert_eq!(rig.derive(token, 63, 1, 4).refusal, 10);
     rig.table.resize(96, 0);
-    assert_eq!(rig.derive(token, 62, 1, 4).refusal, 11);
+    assert_eq!(rig.derive(token, 63, 1, 4).refusal, 11);
     rig.state.next = SPENT - 1;
-    assert_eq!(rig.derive(token, 62, 1, 4).refusal, 0);
+    assert_eq!(rig.derive(token, 63, 1, 4).refusal, 0);
     assert_eq!((rig.count(1), rig.state.next), (65_535, SPENT));
     rig.set(1, 202, 3, 7);
     assert_eq!(rig.simple(EXECUTE_ONLY, token).refusal, 9);
+}
+
+/// 02, paper 1: "From now on length + offset may equal the segment's length."
+#[test]
+fn derive_ends_at_the_segments_end_at_the_latest() {
+    for length in [1, 2, 16] {
+        // A direct segment and an indirect one, each with bytes of others
+        // before and behind it.
+        let mut rig = Rig::new(64, 5);
+        let rest = rig.create(0, 8, 7).second;
+        let cut = rig.create(rest, length, 7);
+        let child = rig.derive(cut.second, 8, length, 7).first;
+        for segment in [cut.first, child] {
+            let derive = |offset, wanted| rig.clone().derive(segment, offset, wanted, 7).refusal;
+            // The whole, and one more than the whole.
+            assert_eq!((derive(0, length), derive(0, length + 1)), (0, 8));
+            // The last byte, one byte past the end, and the whole moved by one.
+            assert_eq!((derive(length - 1, 1), derive(length - 1, 2)), (0, 8));
+            assert_eq!((derive(length, 1), derive(1, length)), (8, 8));
+            // At the end itself nothing is left to derive.
+            assert_eq!(derive(length, 0), 1);
+            for offset in 0..length + 2 {
+                for wanted in 1..length + 3 {
+                    let inside = offset + wanted <= length;
+                    assert_eq!(derive(offset, wanted), if inside { 0 } else { 8 });
+                }
+            }
+            // Sums beyond 64 bits, whose low 64 bits would do.
+            for low in [0, 1, length] {
+                for part in [length + 1, 1 << 32, 1 << 63, u64::MAX] {
+                    let other = low.wrapping_sub(part);
+                    assert!(part.checked_add(other).is_none());
+                    assert_eq!((derive(part, other), derive(other, part)), (8, 8));
+                }
+            }
+            // Offsets and lengths whose low 32 bits would do.
+            assert_eq!((derive(1 << 32, length), derive(0, 1 << 32 | length)), (8, 8));
+        }
+    }
 }
 
 #[test]

@@ -1,4 +1,4 @@
-//! The session of 15 cases, and the traps.
+//! The session of 15 cases as 02, paper 1, changes it, and the traps.
 
 mod common;
 use common::Rig;
@@ -22,7 +22,10 @@ fn fifteen_cases() {
     lines.push(rig.access(READ, 65_525, 12, 0));
     let derived = rig.derive(0, 0, 65_535, 4);
     lines.push(derived.refusal);
-    lines.push(rig.derive(0, 0, 65_536, 4).refusal);
+    // 02, paper 1: "Case 6 of the session then prints 0."
+    let whole = rig.derive(0, 0, 65_536, 4);
+    lines.push(whole.refusal);
+    assert_eq!((rig.base(2), rig.length(2), rig.count(0)), (0, 65_536, 2));
     lines.push(rig.create(0, 4_096, 7).refusal);
     lines.push(rig.lock(0, 0));
     lines.push(rig.lock(0, 7));
@@ -36,7 +39,10 @@ fn fifteen_cases() {
     let freed = rig.simple(DROP, derived.first);
     lines.push(freed.refusal);
     assert_eq!((freed.dropped, rig.kind(1)), (1, 0));
-    assert_eq!(lines, [0, 0, 8, 8, 0, 8, 9, 1, 0, 5, 0, 0, 2, 4, 0]);
+    assert_eq!(lines, [0, 0, 8, 8, 0, 0, 9, 1, 0, 5, 0, 0, 2, 4, 0]);
+    // Case 6's token is as dead as case 5's was.
+    assert_eq!(rig.access(READ, whole.first, 1, 0), 4);
+    assert_eq!(rig.simple(DROP, whole.first).dropped, 1);
 }
 
 /// "Comparing the low 55 bits of a task: 2^55 + 7 isn't 7."

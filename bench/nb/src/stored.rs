@@ -1,4 +1,4 @@
-//! The stored conformance sessions, as they are written: with the refusals that paper 01 asks for,
+//! The stored conformance sessions, as they are written: with the refusals that the papers ask for,
 //! and without the results that recording adds.
 
 use std::borrow::Cow;
@@ -66,6 +66,8 @@ pub fn all() -> Vec<Stored> {
         "merge-chain",
         "merge-refused",
         "derive-bounds",
+        "derive-whole",
+        "derive-one-byte",
         "execute-only",
         "drop-climb",
         "drop-climb-stops",

@@ -121,9 +121,9 @@ fn the_address_tells_the_step() {
         assert!(dom.contains(&format!("<body data-step=\"{step}\">")), "{fragment}");
         assert_eq!(said(&dom), maps[step], "{fragment}");
     }
-    let dom = opened(&browser, "address", &page, "#7");
+    let dom = opened(&browser, "address", &page, "#5");
     let told = plain(dom.split_once("<div id=\"request\"").expect("the request").1);
-    assert!(told.contains("derive root length 65536 permissions R"), "{told:.200}");
+    assert!(told.contains("read root+65525 12"), "{told:.200}");
     assert!(told.contains("8 out of bounds") && told.contains("stopped at #0 root"), "{told:.200}");
 }
 

@@ -1,5 +1,6 @@
 // Access: read, write and fetch, through a token, at its offset.
 use bits::slice::copy;
+use checks::bounds::inside;
 use checks::reach::Reached;
 use checks::reach::near;
 use checks::reach::reach;
@@ -14,7 +15,7 @@ use tokens::token::Named;
 use tokens::token::read;
 ghost use mathlib.Core.Path.{_≡_};
 ghost use Prim.Native.Nat.{_+_, _*_, _≤_};
-ghost use lib.Dec.{eqb, leb};
+ghost use lib.Dec.{eqb};
 ghost use lib.ListN.{drop, length, take};
 ghost use lib.Seq.{sets};
 ghost use Rattle.tokens.specs.Permissions.{has};
@@ -65,20 +66,6 @@ fn holds(way: Way, permissions: u8) -> bool
         Way::Read => permissions / 4 % 2 == 1,
         Way::Write => permissions / 2 % 2 == 1,
         Way::Fetch => permissions / 1 % 2 == 1,
-    }
-}
-
-// So many bytes at the offset lie wholly inside a segment of the length.
-fn inside(offset: u64, bytes: u64, length: u64) -> bool
-    ensures { λ r. ⌜ r ≡ leb (offset + bytes) length ⌝ }
-{
-    if length < bytes {
-        return false;
-    }
-    if offset <= length - bytes {
-        true
-    } else {
-        false
     }
 }
 

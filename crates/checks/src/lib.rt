@@ -1,5 +1,6 @@
 // The refusals, and the checks that many requests share: sizes and settings, the named entry, its
-// line, the lock.
+// line, the lock, the bounds.
+pub mod bounds;
 pub mod reach;
 pub mod refusal;
 pub mod settings;

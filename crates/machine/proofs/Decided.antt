@@ -84,7 +84,7 @@ pub true-join : (xs ys : List Bool) → AllTrue xs → AllTrue ys → AllTrue (x
 true-join [] ys h k = k
 true-join (x ∷ xs) ys h k = (h .0, true-join xs ys (h .1) k)
 
--- what every request that passes has passed: the sizes, and place 11
+-- what every request that passes has passed: the sizes, places 6 to 10, and place 11
 module _ (m : ℕ) (s : State) (t : List ℕ) (q : Request) (b : List ℕ) (h : Passed (checks m s t q b)) where
   abbrev p : Places
   p = places m s t q b
@@ -98,10 +98,14 @@ module _ (m : ℕ) (s : State) (t : List ℕ) (q : Request) (b : List ℕ) (h : 
   pub sizes-passed : AllTrue (sizes m t)
   sizes-passed = true-split (sizes m t) (p .request) (needed atRequest (sizes m t ++ p .request) (parted .0)) .0
 
+  last : Passed (p .rest) × Passed nonces
+  last = passed-split (p .rest) nonces (passed-split (p .tokens) (p .rest ++ nonces) (parted .1) .1)
+
+  pub rest-passed : Passed (p .rest)
+  rest-passed = last .0
+
   pub nonces-passed : book s t (grant m t q b) .state .next ≤ spent
-  nonces-passed =
-      let rest = passed-split (p .tokens) (p .rest ++ nonces) (parted .1) .1 in
-      leb-true (book s t (grant m t q b) .state .next) spent (passed-split (p .rest) nonces rest .1 .0)
+  nonces-passed = leb-true (book s t (grant m t q b) .state .next) spent (last .1 .0)
 
 -- what holds of a pass, with the checks passed, and of every stop, holds of the verdict
 by-checks : (P : Verdict → Type 0) (cs : List Check) → (Passed cs → P pass) → ((r : Refusal) → P (stop r)) → P (verdict cs)

@@ -27,7 +27,7 @@ use Rattle.machine.specs.Stops.{checks}
 use Rattle.machine.specs.Writes.{Book, give, Name, opened, vacate, Write, write, written}
 use Rattle.machine.proofs.Basics.{neqb-true, owner-direct, parent, put-all, put2-all, range}
 use Rattle.machine.proofs.Choices.{by-cond}
-use Rattle.machine.proofs.Decided.{Passed}
+use Rattle.machine.proofs.Decided.{Passed, rest-passed}
 use Rattle.machine.proofs.Fates.{core, Deed, Fate, gone, Inv, issued, kept, Shut, Source, spares, Touches}
 use Rattle.machine.proofs.Fuel.{Live, number-first, revoke-least, walk-owns}
 use Rattle.machine.proofs.Sums.{owned-direct, owned-other, sum-put2, sum-same}
@@ -486,7 +486,7 @@ module _ (m : ℕ) (s : State) (t : List ℕ) (inv : Inv m s t) where
       (neqb-true (e .kind) 0 (search))
       (neqb-true (newNumber s t) 0 (search))
       (omega (arith, neqb-true l 0 (search)))
-      (omega (arith, ltb-true (l + o) (e .length) (search)))
+      (let ends = rest-passed m s t (derive k o l p c) b h .1 .0 in omega (arith, leb-true))
       (omega (arith, leb-true p 7 (search)))
       (search)
       (ltb-true (e .count) 65535 (search))

@@ -22,5 +22,6 @@ pub mod Sums
 pub mod TableLaws
 pub mod Theorem
 pub mod Unchanged
+pub mod WholeDerive
 pub mod WriteLaws
 pub mod Written

@@ -134,7 +134,7 @@ issued-fits : (s : State) (c n : ℕ) (e : Entry) → c ≤ 3 → n < 1024 → N
 unfolding tagOf
 issued-fits s c n e a b = small-fits c n (issue s n e .tag) a b (mod-lt _ (pow-pos 16))
 
-names : (s : State) (c n : ℕ) (e : Entry) → c ≤ 3 → n < 1024 → nameIn (tokenFor c (nameOf n (issue s n e))) ≡ nameOf n (issue s n e)
+pub names : (s : State) (c n : ℕ) (e : Entry) → c ≤ 3 → n < 1024 → nameIn (tokenFor c (nameOf n (issue s n e))) ≡ nameOf n (issue s n e)
 names s c n e a b = ap (λ (x : Named). record { number = x .number; tag = x .tag }) (read-packed c _ (omega arith) (issued-fits s c n e a b))
 
 words-append : (xs : List ℕ) (y : ℕ) → AllWords xs → y < 2 ^ 64 → AllWords (xs ++ (y ∷ []))

@@ -92,9 +92,12 @@ names n e = record { tag = e .tag; number = n; offset = 0 }
 names-fit : (m : ℕ) (n : ℕ) (e : Entry) → Good m e → n < 1024 → NamedFits 1 (names n e)
 names-fit m n e g h = omega (arith, fitting m e g)
 
--- the number that a parent token names
+-- the number and the tag that a parent token names
 pub parent-named : (m : ℕ) (n : ℕ) (e : Entry) → Good m e → n < 1024 → namedAs 1 (tokenOf 1 n e) .number ≡ n
 parent-named m n e good h = ap (λ (x : Named). x .number) (named-of 1 (names n e) (names-fit m n e good h))
+
+pub parent-tagged : (m : ℕ) (n : ℕ) (e : Entry) → Good m e → n < 1024 → namedAs 1 (tokenOf 1 n e) .tag ≡ e .tag
+parent-tagged m n e good h = ap (λ (x : Named). x .tag) (named-of 1 (names n e) (names-fit m n e good h))
 
 pub issue-indirect : (m : ℕ) (s : State) (k n : ℕ) {e : Entry} {b l p ν : ℕ} → m ≤ mostMemory → Good m e → n < 1024 → 0 < l → b + l ≤ m → p < 8 → ν < spent
     → Good m (issue s k (indirect b l (tokenOf 1 n e) p 0 ν))

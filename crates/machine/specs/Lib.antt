@@ -17,4 +17,5 @@ pub mod Session
 pub mod Steps
 pub mod Stops
 pub mod Unchanged
+pub mod WholeDerive
 pub mod Writes

@@ -160,7 +160,7 @@ handedOver = record {
       ∷ refuses (plain (derive 0x4029800000000006 0 1 0 0)) 3 2 14 100
       ∷ refuses (plain (derive 0x4029c00000000007 0 1 0 0)) 4 1 14 100
       ∷ refuses (plain (derive 0x4028800000000002 0 9 2 0)) 7 0 14 100
-      ∷ refuses (plain (derive 0x4028000000000000 1 15 7 0)) 8 0 14 100
+      ∷ refuses (plain (derive 0x4028000000000000 1 16 7 0)) 8 0 14 100
       -- execute-only
       ∷ refuses (plain (executeOnly 0x4028000000000000 4)) 1 0 14 100
       ∷ refuses (plain (executeOnly 0x28000000000001 0)) 1 0 14 100
@@ -261,7 +261,7 @@ handedOn = record {
       ∷ [];
 }
 
--- a new number: round from the table's end to 1, never 0, the last one given at the end of the round
+-- a new number: round from the table's end to 1, never 0, the last one given at the end of the round; and a child up to its parent's end
 abbrev goingRound : Session
 goingRound = record {
   memory = 8;
@@ -275,12 +275,12 @@ goingRound = record {
       refuses (plain (derive 0x4028400000000001 0 2 7 0)) 10 0 2 9
       ∷ refuses (plain (executeOnly 0x4028400000000001 0)) 10 0 2 9
       ∷ grants (plain (release 0x4028800000000002)) [] 1 2 9 nothing
-      ∷ grants (plain (derive 0x4028400000000001 0 2 7 0)) (0x1b8b800200000000 ∷ []) 0 2 10 nothing
+      ∷ grants (plain (derive 0x4028400000000001 3 5 7 0)) (0x0591c00200000000 ∷ []) 0 2 10 nothing
       ∷ [];
   left =
       0
       ∷ 0x200000000000000100002000000000000000000000000000003a00a100000007
-      ∷ 0x40000000080508000000000020000000400020000000000000386e2e00000009
+      ∷ 0x40000000680508000000000020000000a0002000000000000038164700000009
       ∷ [];
 }
 

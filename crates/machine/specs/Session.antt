@@ -66,7 +66,8 @@ firstCases =
 abbrev any : State
 any = record { key0 = 0; key1 = 0; last = 0; next = 0 }
 
--- the rows of 01's checklist: "The four packed tokens, the root entry and cases 3, 4, 6, 8 are proved as one table by one proposition."
+-- the rows of 01's checklist: "The four packed tokens, the root entry and cases 3, 4, 6, 8 are proved as one table by one proposition." Of 02, paper 1:
+-- "Case 6 of the session then prints 0".
 abbrev caseRow : ℕ → ℕ → Row
 caseRow case printed = record { given = getD (refusals (decisions bytes65536 any (replicate 128 0) firstCases)) case 99 ∷ []; printed = printed ∷ [] }
 
@@ -75,4 +76,4 @@ abbrev rootRow : Row
 rootRow = record { given = take 32 (decide bytes65536 any (replicate 128 0) (reset 0 0 1) [] .table); printed = printedRoot }
 
 abbrev pub examples : List Row
-examples = packedTokens ++ (rootRow ∷ caseRow 3 8 ∷ caseRow 4 8 ∷ caseRow 6 8 ∷ caseRow 8 1 ∷ [])
+examples = packedTokens ++ (rootRow ∷ caseRow 3 8 ∷ caseRow 4 8 ∷ caseRow 6 0 ∷ caseRow 8 1 ∷ [])

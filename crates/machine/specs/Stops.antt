@@ -163,13 +163,10 @@ isDirect e = eqb (e .kind) 1
 abbrev pub rightsHeld : ℕ → Entry → Check
 rightsHeld p e = need atRight (within p (e .permissions))
 
--- "outside the segment, derive's sum, or not neighbours in order": what ends so many bytes after the base lies inside; a derive's sum is less than the
--- length; the second begins where the first ends
+-- "outside the segment, derive's sum, or not neighbours in order": what ends so many bytes after the base lies inside; the second begins where the
+-- first ends. Derive's sum is such an end (02, paper 1): "From now on length + offset may equal the segment's length."
 abbrev pub endsInside : ℕ → Entry → Check
 endsInside n e = need atBounds (leb n (e .length))
-
-abbrev pub sumBelow : ℕ → Entry → Check
-sumBelow n e = need atBounds (ltb n (e .length))
 
 abbrev pub neighbours : Entry → Entry → Check
 neighbours d e = need atBounds (eqb (e .base) (d .base + d .length))
@@ -238,7 +235,7 @@ places m s t (derive k o l p c) b =
     record {
       request = settings s t ++ (encodingFits c ∷ permissionsFit p ∷ someLength l ∷ noOffset k ∷ []);
       tokens = live m t k;
-      rest = rightsHeld p e ∷ sumBelow (l + o) e ∷ bearing s t e;
+      rest = rightsHeld p e ∷ endsInside (l + o) e ∷ bearing s t e;
     }
 places m s t (executeOnly k c) b =
     let e = namedEntry t k in

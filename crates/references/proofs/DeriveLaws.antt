@@ -1,13 +1,12 @@
 -- Derive: its checks, and what it leaves.
 -- Assumes nothing.
-use mathlib.Core.Path.{_≡_, refl, sym, _∙_}
+use mathlib.Core.Path.{_≡_, refl, _∙_}
 use mathlib.Core.Bool.{Bool, true, false, not, _&&_, cond}
 use mathlib.Core.List.{List, [], _∷_, _++_}
-use Prim.Native.Nat.{ℕ, _+_, _-_, _^_, _≤_, _<_}
+use Prim.Native.Nat.{ℕ, _+_, _^_, _≤_, _<_}
 use native.Mathlib.Omega.{arith}
-use native.Mathlib.Decide.{decLt}
-use lib.Dec.{eqb, leb, ltb}
-use borrow.Author.Tests.{le-ltb, leb-true, lt-ltb, ltb-true, not-false, not-true}
+use lib.Dec.{eqb, leb}
+use borrow.Author.Tests.{leb-true, not-false, not-true}
 use Rattle.tokens.specs.Permissions.{within}
 use Rattle.tokens.specs.Token.{named}
 use Rattle.layout.specs.declared.entry.Entry.{Entry}
@@ -27,17 +26,6 @@ use Rattle.rulings.proofs.AllotLaws.{pass-limits, request-limits, segment-insid
 use Rattle.rulings.proofs.RulingLaws.{passed-on, request-true}
 use Rattle.references.specs.Children.{Bearing, bearingOn, childVerdict}
 use Rattle.references.proofs.ChildLaws.{child-bears}
-
--- a sum that is not made
-pub sum-in : (a b n : ℕ) → a < n → ltb b (n - a) ≡ ltb (a + b) n
-sum-in a b n h = go (decLt b (n - a))
-  where
-    go : Dec (b < n - a) → ltb b (n - a) ≡ ltb (a + b) n
-    go (yes i) = lt-ltb b (n - a) i ∙ sym (lt-ltb (a + b) n (omega arith))
-    go (no i) = le-ltb b (n - a) (omega arith) ∙ sym (le-ltb (a + b) n (omega arith))
-
-pub sum-out : (a b n : ℕ) → n ≤ a → false ≡ ltb (a + b) n
-sum-out a b n h = sym (le-ltb (a + b) n (omega arith))
 
 module _ (m : ℕ) (s : State) (t : List ℕ) (k o l p c : ℕ) where
   -- place 1, with the token read as n
@@ -59,27 +47,27 @@ module _ (m : ℕ) (s : State) (t : List ℕ) (k o l p c : ℕ) where
 
   -- places 7 and 8, where the token is read as n, its entry as e, and b tells whether the rights are held
   module _ (n : Named) (e : Entry) (b : Bool) (is : n ≡ named k) (there : e ≡ at t (n .number)) (right : b ≡ within p (e .permissions)) where
-    part-of : restOn m s t (derive k o l p c) [] ≡ cond b (cond (ltb (l + o) (e .length)) (childVerdict s t e) (stop atBounds)) (stop atRight)
+    part-of : restOn m s t (derive k o l p c) [] ≡ cond b (cond (leb (l + o) (e .length)) (childVerdict s t e) (stop atBounds)) (stop atRight)
     unfolding restOn childVerdict
     part-of = rw (right, there, is)
 
     pub part-right : not b ≡ true → restOn m s t (derive k o l p c) [] ≡ stop atRight
     part-right h = part-of ∙ rw (not-true b h)
 
-    module _ (a : Bool) (below : a ≡ ltb (l + o) (e .length)) (held : not b ≡ false) where
+    module _ (a : Bool) (fits : a ≡ leb (l + o) (e .length)) (held : not b ≡ false) where
       pub part-bounds : not a ≡ true → restOn m s t (derive k o l p c) [] ≡ stop atBounds
-      part-bounds h = part-of ∙ rw (not-false b held, ← below, not-true a h)
+      part-bounds h = part-of ∙ rw (not-false b held, ← fits, not-true a h)
 
       pub part-child : not a ≡ false → restOn m s t (derive k o l p c) [] ≡ childVerdict s t e
-      part-child h = part-of ∙ rw (not-false b held, ← below, not-false a h)
+      part-child h = part-of ∙ rw (not-false b held, ← fits, not-false a h)
 
   -- what a pass says
   module _ (h : verdictOn m s t (derive k o l p c) [] ≡ pass) where
     all : Passed (checks m s t (derive k o l p c) [])
     all = passed-on m s t (derive k o l p c) [] h
 
-    sum : l + o < at t (numberOf k) .length
-    sum = let a : Passed (checks m s t (derive k o l p c) []) = all in ltb-true _ _ (search)
+    sum : l + o ≤ at t (numberOf k) .length
+    sum = let a : Passed (checks m s t (derive k o l p c) []) = all in leb-true _ _ (search)
 
     inside : at t (numberOf k) .base + at t (numberOf k) .length ≤ mostMemory
     inside = let a : Passed (checks m s t (derive k o l p c) []) = all in segment-inside m t (numberOf k) (search) (search) (search)

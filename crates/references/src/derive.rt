@@ -1,6 +1,7 @@
 // Derive makes a child over a part of the segment.
 use crate::child::allot_child;
 use crate::child::grant_child;
+use checks::bounds::inside;
 use checks::reach::Reached;
 use checks::reach::reach_near;
 use checks::refusal::Refusal;
@@ -16,7 +17,6 @@ use tokens::token::read;
 ghost use mathlib.Core.Path.{_≡_};
 ghost use mathlib.Core.List.{[]};
 ghost use Prim.Native.Nat.{ℕ, _+_, _*_, _≤_};
-ghost use lib.Dec.{ltb};
 ghost use lib.ListN as list;
 ghost use Rattle.machine.specs.Operations.{numberOf};
 ghost use Rattle.machine.specs.Requests as request;
@@ -24,13 +24,6 @@ ghost use Rattle.rulings.specs.Allotments.{allotted, Allots, Limits};
 ghost use Rattle.table.specs.States.{stateAs};
 ghost use Rattle.tokens.specs.Token as tokens;
 ghost use Rattle.rulings.specs.Rulings.{granting, handed, restOn, rulingOn, verdictOn};
-
-// The true sum of a and b is below the end.
-fn sum_below(a: u64, b: u64, end: u64) -> bool
-    ensures { λ r. ⌜ r ≡ ltb (a + b) end ⌝ }
-{
-    if a < end { b < end - a } else { false }
-}
 
 // Places 7 to 11, which look at nothing else that the request carries. The token is read as named.
 fn check_part(
@@ -51,7 +44,7 @@ fn check_part(
     if !within(permissions as u8, e.permissions) {
         return Allotted::Stop(Refusal::Right);
     }
-    if !sum_below(length, offset, e.length as u64) {
+    if !inside(length, offset, e.length as u64) {
         return Allotted::Stop(Refusal::Bounds);
     }
     allot_child(s, table, e)

@@ -1,5 +1,6 @@
 // Paper 01's session: 65,536 bytes, 4 entries, key 0, first nonce 1, task 0 unless named. Prints a
-// line for each case: case, space, refusal (0 granted).
+// line for each case: case, space, refusal (0 granted). Case 6, a derive of the whole, is granted, as
+// paper 1 of 02 has it.
 use libc::STDOUT_FILENO;
 use operations::state::State;
 use rulings::reply::Outcome;

@@ -1,4 +1,4 @@
--- Demand 3 used, with the real tags: its premises can be met, and two of them are shown to be needed.
+-- The claims used, with the real tags: the premises of each can be met, and two of demand 3's are shown to be needed.
 -- Assumes nothing.
 use mathlib.Core.Path.{_≡_, refl, sym, ap}
 use mathlib.Core.Logic.{_⊎_, inl, inr}
@@ -17,20 +17,24 @@ use Rattle.layout.specs.declared.entry.Entry.{Entry}
 use Rattle.machine.specs.Demand3 as claim
 use Rattle.machine.specs.Demand3.{above, Accepted, Alike, Closed, Demand3, In, issuedIn, itself, LockedFor, Secret, Unreset}
 use Rattle.machine.specs.Depth.{Bounded, climbMeets, Depth, dropMeets, lineMeets, walkMeets}
+use Rattle.machine.specs.FromReset.{FromReset}
 use Rattle.machine.specs.Issuing.{passOver, seek}
 use Rattle.machine.specs.Line.{walk}
 use Rattle.machine.specs.Lent.{AllBytes, LentBytes}
 use Rattle.machine.specs.Unchanged.{HeldDrop, LockAgain}
+use Rattle.machine.specs.WholeDerive.{PassedOn, Whole}
 use Rattle.machine.specs.Writes.{Name, tokenFor}
 use Rattle.machine.specs.Parts.{at, cleared, put, size}
 use Rattle.machine.specs.Requests.{Call, reading}
 use Rattle.machine.specs.Steps.{Answer, answer, decide, Machine, run, step}
-use Rattle.uses.specs.Uses.{before, changed, child, derives, drops, First, first, listOf, locks7, Premises, read, reset1, revokes, rootName}
+use Rattle.uses.specs.Uses.{before, changed, child, derives, drops, First, first, listOf, locks7, passes, Premises, read, readPassed, reset1, revokes, rootName, single}
 use Rattle.machine.proofs.ByteLaws.{bytes-zeros}
 use Rattle.machine.proofs.Depth.{depth}
+use Rattle.machine.proofs.FromReset.{from-reset}
 use Rattle.machine.proofs.Lent.{bytes-stay}
 use Rattle.machine.proofs.Theorem.{alike-refl, demand3}
 use Rattle.machine.proofs.Unchanged.{held-drop, lock-again}
+use Rattle.machine.proofs.WholeDerive.{whole-passed}
 
 -- ---- a token derived before the lock is closed by the revoke
 
@@ -164,3 +168,20 @@ pub all-met :
     Bounded 8 t 1 × (lineMeets 8 t 1 ≡ 1 ∷ 0 ∷ []) × (dropMeets t 1 ≡ 1 ∷ 0 ∷ []) × (size t ≡ 2)
 unfolding Depth walkMeets climbMeets before bytes number lowBytes lowNumber directNumber directOf entryNumber entryOf indirectNumber indirectOf illFormed within absorb add64 compress finish padded rotl siphash sipRound word tagOf passOver seek walk at cleared put size decide step answer
 all-met = (depth 8 (run before (reset1 1 ∷ derives ∷ []) .table) 1 (omega arith), refl, refl, refl)
+
+-- ---- a buffer passed on whole: the root of 8 bytes, of which a part may be passed on; and a root of one byte
+
+pub passed-on : PassedOn (step before (reset1 1)) 0 4 (passes 8)
+unfolding FromReset Whole before bytes number lowBytes lowNumber directNumber directOf entryNumber entryOf indirectNumber indirectOf illFormed within absorb add64 compress finish padded rotl siphash sipRound word tagOf passOver seek walk at cleared put size decide step answer
+passed-on = whole-passed (step before (reset1 1)) (from-reset before 0 0 1 [] refl [] tt) 0 2 3 4 0 [] refl
+
+-- its last byte is read through what was given, and none beyond
+pub last-read :
+    let τ : Machine = step (step before (reset1 1)) (passes 8) in
+    (answer τ (readPassed 7) .buffer ≡ 9 ∷ []) × (answer τ (readPassed 8) .reply .refusal ≡ 8)
+unfolding before bytes number lowBytes lowNumber directNumber directOf entryNumber entryOf indirectNumber indirectOf illFormed within absorb add64 compress finish padded rotl siphash sipRound word tagOf passOver seek walk at cleared put size decide step answer
+last-read = (refl, refl)
+
+pub one-byte-passed : PassedOn (step single (reset1 1)) 0 4 (passes 1)
+unfolding FromReset Whole single bytes number lowBytes lowNumber directNumber directOf entryNumber entryOf indirectNumber indirectOf illFormed within absorb add64 compress finish padded rotl siphash sipRound word tagOf passOver seek walk at cleared put size decide step answer
+one-byte-passed = whole-passed (step single (reset1 1)) (from-reset single 0 0 1 [] refl [] tt) 0 0 1 4 0 [] refl

@@ -1,8 +1,8 @@
--- Small lists that demand 3 is held against: 8 bytes of memory, a table of two entries, key 0.
+-- Small lists that the claims are held against: 8 bytes of memory, or one, a table of two entries, key 0.
 -- Assumes nothing.
 use mathlib.Core.Path.{_≡_}
 use mathlib.Core.List.{List, [], _∷_, _++_, List·Memᴰ}
-use Prim.Native.Nat.{ℕ}
+use Prim.Native.Nat.{ℕ, _+_}
 use lib.ListN.{replicate, set}
 use Rattle.machine.specs.Demand3.{Accepted, FirstRevoke, LockedFor, NoneCarries, NoReset, resetCall, Under, Unreset}
 use Rattle.machine.specs.Writes.{Name, tokenFor}
@@ -10,6 +10,7 @@ use Rattle.machine.specs.Parts.{at}
 use Rattle.machine.specs.Requests.{access, Call, derive, lock, reading, release, revoke}
 use Rattle.machine.specs.Session.{plain}
 use Rattle.machine.specs.Steps.{decision, Machine, run, step}
+use Rattle.machine.specs.WholeDerive.{accessCall, deriveCall}
 
 -- ---- the premises of demand 3, in one place
 
@@ -82,3 +83,20 @@ first ν cs = record { key0 = 0; key1 = 0; firstNonce = ν; follows = cs; entry 
 -- the machine with the byte v at x
 abbrev pub changed : Machine → (x v : ℕ) → Machine
 changed σ x v = record { state = σ .state; table = σ .table; memory = set (σ .memory) x v }
+
+-- ---- a buffer passed on whole (02, paper 1)
+
+-- before reset, with one byte of memory
+unfoldable pub single : Machine
+single = record { state = record { key0 = 0; key1 = 0; last = 0; next = 0 }; table = replicate 64 0; memory = 9 ∷ [] }
+
+-- all of the root, of so many bytes, for reading
+abbrev pub passes : (length : ℕ) → Call
+passes l = deriveCall 0 0 l 4 0 []
+
+-- what is given for the root of 8 bytes; its last byte is read, and one beyond
+abbrev pub passed : Name
+passed = record { number = 1; tag = 59639 }
+
+abbrev pub readPassed : (offset : ℕ) → Call
+readPassed o = accessCall reading (tokenFor 0 passed + o) 0 (0 ∷ [])

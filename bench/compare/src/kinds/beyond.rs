@@ -63,6 +63,6 @@ fn through(player: &mut Player, number: usize) {
     }
     let code = player.simple(Operation::ExecuteOnly, token);
     player.simple(Operation::Drop, code.first);
-    let child = player.derive(token, 0, last, entry.get(entry::PERMISSIONS));
+    let child = player.derive(token, 0, entry.length(), entry.get(entry::PERMISSIONS));
     player.simple(Operation::Drop, child.first);
 }

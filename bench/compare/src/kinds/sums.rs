@@ -8,7 +8,8 @@ use crate::player::Player;
 use crate::{wild, worlds};
 
 pub fn play(player: &mut Player) {
-    let memory = player.dice.one_of(&[2, 64, 4_096]);
+    // Of two bytes each half is a segment of one.
+    let memory = player.dice.one_of(&[2, 2, 64, 4_096]);
     worlds::reset(player, 16, memory, 1);
     let half = memory as u64 / 2;
     let permissions = player.dice.below(8);

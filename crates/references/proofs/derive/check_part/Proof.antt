@@ -19,12 +19,12 @@ check-part-spec =
     let a = c .before in
     let w = a .before .before .before in
     let i = w .before in
-    part-bounds m _ _ _ _ _ _ e _ (i .entry-at .result) _ (i .before .before .pre .0) (i .entry-at .ensures) (w .within .ensures) _ (a .sum-below .ensures) (a .before .before .if1 .left) (c .if2 .taken))
+    part-bounds m _ _ _ _ _ _ e _ (i .entry-at .result) _ (i .before .before .pre .0) (i .entry-at .ensures) (w .within .ensures) _ (a .inside .ensures) (a .before .before .if1 .left) (c .if2 .taken))
     (λ c κs. search needs)
     (λ c m e.
     let a = c .before .before in
     let w = a .before .before .before in
     let i = w .before in
     rw
-    (part-child m _ _ _ _ _ _ e _ (i .entry-at .result) _ (i .before .before .pre .0) (i .entry-at .ensures) (w .within .ensures) _ (a .sum-below .ensures) (a .before .before .if1 .left) (c .before .if2 .left))
+    (part-child m _ _ _ _ _ _ e _ (i .entry-at .result) _ (i .before .before .pre .0) (i .entry-at .ensures) (w .within .ensures) _ (a .inside .ensures) (a .before .before .if1 .left) (c .before .if2 .left))
     (c .allot-child .ensures)))
