@@ -16,10 +16,10 @@ use Rattle.machine.specs.Parts.{at, put, size, spent, State}
 use Rattle.machine.specs.Steps.{stop}
 use Rattle.machine.specs.Stops.{atStanding}
 use Rattle.machine.specs.Writes.{give, opened, write}
-use Rattle.table.specs.Left.{issuedAs, Left, leftBy}
+use Rattle.issuing.specs.Left.{issuedAs, Left, leftBy}
 use Rattle.table.specs.States.{stateAs}
 use Rattle.table.specs.declared.state.StateWords.{StateWords}
-use Rattle.table.specs.declared.writes.Issued.{Issued}
+use Rattle.issuing.specs.declared.writes.Issued.{Issued}
 use Rattle.rulings.specs.Allotments.{allotVerdict, Limits}
 use Rattle.rulings.specs.Rulings.{givingOne, handed, Ruling}
 use Rattle.rulings.specs.declared.reply.Outcome.{Outcome}

@@ -1,5 +1,7 @@
 // Children: what derive and execute-only share.
 use checks::refusal::Refusal;
+use issuing::writes::give;
+use issuing::writes::recount;
 use layout::entry::Entry;
 use layout::entry::base_of;
 use layout::entry::count_of;
@@ -11,8 +13,6 @@ use rulings::reply::Outcome;
 use rulings::reply::giving;
 use table::entries::words_at;
 use table::state::StateWords;
-use table::writes::give;
-use table::writes::recount;
 use tokens::token::token_of;
 ghost use mathlib.Core.Path.{_≡_};
 ghost use Rattle.table.specs.States.{stateAs};

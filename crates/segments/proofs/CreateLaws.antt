@@ -26,11 +26,11 @@ use Rattle.machine.specs.Writes.{give, opened, reissue, vacated, write, written
 use Rattle.machine.proofs.Choices.{by-both}
 use Rattle.machine.proofs.Decided.{AllTrue, Passed}
 use Rattle.machine.proofs.TableLaws.{length-put}
-use Rattle.table.specs.Left.{Issues, issuedAs, issuedTwoAs, Left, leftBy}
+use Rattle.issuing.specs.Left.{Issues, issuedAs, issuedTwoAs, Left, leftBy}
 use Rattle.table.specs.States.{stateAs}
 use Rattle.table.specs.declared.state.StateWords.{StateWords}
-use Rattle.table.specs.declared.writes.Issued.{Issued}
-use Rattle.table.specs.declared.writes.IssuedTwo.{IssuedTwo}
+use Rattle.issuing.specs.declared.writes.Issued.{Issued}
+use Rattle.issuing.specs.declared.writes.IssuedTwo.{IssuedTwo}
 use Rattle.table.proofs.FitLaws.{at-fits}
 use Rattle.rulings.specs.Allotments.{allotVerdict, Limits}
 use Rattle.rulings.specs.Rulings.{givingOne, givingTwo, granting, handed, restOn, tokensOn, verdictOn}

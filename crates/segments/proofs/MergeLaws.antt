@@ -24,10 +24,10 @@ use Rattle.machine.specs.Stops.{atBounds, atKind, atNonces, atStanding, checks,
 use Rattle.machine.specs.Writes.{opened, reissue, vacated, write}
 use Rattle.machine.proofs.Decided.{Passed}
 use Rattle.machine.proofs.TableLaws.{length-put}
-use Rattle.table.specs.Left.{Issues, issuedAs, leftBy}
+use Rattle.issuing.specs.Left.{Issues, issuedAs, leftBy}
 use Rattle.table.specs.States.{stateAs}
 use Rattle.table.specs.declared.state.StateWords.{StateWords}
-use Rattle.table.specs.declared.writes.Issued.{Issued}
+use Rattle.issuing.specs.declared.writes.Issued.{Issued}
 use Rattle.table.proofs.FitLaws.{at-fits}
 use Rattle.rulings.specs.Rulings.{givingOne, granting, handed, restOn, tokensOn, verdictOn}
 use Rattle.rulings.specs.declared.reply.Outcome.{Outcome}

@@ -25,11 +25,11 @@ use Rattle.machine.specs.Stops.{atKind, atNonces, checks, places, sizes}
 use Rattle.machine.specs.Writes.{opened, otherNonce, renew, write}
 use Rattle.machine.proofs.Decided.{AllTrue, Passed}
 use Rattle.machine.proofs.WriteLaws.{other-least}
-use Rattle.table.specs.Left.{Issues, issuedAs, leftBy, Renews}
+use Rattle.issuing.specs.Left.{Issues, issuedAs, leftBy, Renews}
 use Rattle.table.specs.States.{stateAs}
-use Rattle.table.specs.declared.issue.Renewed.{Renewed}
+use Rattle.issuing.specs.declared.issue.Renewed.{Renewed}
 use Rattle.table.specs.declared.state.StateWords.{StateWords}
-use Rattle.table.specs.declared.writes.Issued.{Issued}
+use Rattle.issuing.specs.declared.writes.Issued.{Issued}
 use Rattle.rulings.specs.Rulings.{givingOne, grantedEffect, granting, handed, restOn, tokensOn, verdictOn}
 use Rattle.rulings.specs.declared.reply.Outcome.{Outcome}
 use Rattle.rulings.proofs.AllotLaws.{limits}

@@ -1,12 +1,12 @@
 // Reset: the root over all of memory, and nothing else.
 use checks::refusal::Refusal;
 use checks::settings::sizes;
+use issuing::writes::begin;
 use rulings::reply::Checked;
 use rulings::reply::Outcome;
 use rulings::reply::plain;
 use rulings::reply::refused;
 use table::state::StateWords;
-use table::writes::begin;
 ghost use mathlib.Core.Path.{_≡_};
 ghost use mathlib.Core.List.{[]};
 ghost use lib.ListN.{length};

@@ -1,5 +1,4 @@
 pub mod Cuts
-pub mod Left
 pub mod Lines
 pub mod Searches
 pub mod States

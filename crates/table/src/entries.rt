@@ -32,7 +32,7 @@ pub fn words_at(table: &[u8], n: usize) -> Words
 }
 
 // The words are stored under number n: it holds the entry whose words they are.
-pub(crate) fn put_words(table: &mut [u8], n: usize, w: Words)
+pub fn put_words(table: &mut [u8], n: usize, w: Words)
     requires { ⌜ 32 * n + 32 ≤ length (now table) ⌝ }
     ensures { λ _. ⌜ Stored (now (table .entry)) n w (now (table .exit)) ⌝ }
 {

@@ -10,8 +10,8 @@ use Rattle.table.proofs.entries.entry_at.Reads as entry-at-reads
 use Rattle.table.proofs.entries.words_at.Reads as words-at-reads
 use Rattle.table.proofs.line.linked.Reads as linked-reads
 use Rattle.table.proofs.line.parent_number.Reads as parent-number-reads
-use Rattle.table.proofs.writes.recount.Reads as recount-reads
-use Rattle.table.proofs.writes.vacate.Reads as vacate-reads
+use Rattle.issuing.proofs.writes.recount.Reads as recount-reads
+use Rattle.issuing.proofs.writes.vacate.Reads as vacate-reads
 use Rattle.references.proofs.DropLaws.{climb-ended, climb-freed, climb-in, climb-less, climb-next, climb-none, climb-up}
 use Rattle.references.proofs.drop.climb.Reads as climb
 use Rattle.references.proofs.drop.climb.Kinds as climb-kinds

@@ -1,0 +1,27 @@
+-- `issuing::writes::begin` meets its contract: the table is cleared, then holds the root.
+-- Assumes nothing.
+use mathlib.Core.Path.{refl}
+use native.Mathlib.Omega.{arith}
+use lib.ListN.{length-replicate}
+use borrow.Author.Needs.{needs}
+use Rattle.layout.specs.Entry.{laidDirect}
+use Rattle.layout.proofs.EntryLaws.{laid-words}
+use Rattle.table.specs.States.{stateAs}
+use Rattle.issuing.proofs.WriteLaws.{begin-left}
+use Rattle.issuing.proofs.writes.begin.Statement.{statement}
+use Rattle.issuing.proofs.writes.begin.Tie as tie
+
+pub begin-spec : {M : Type 1} → statement M
+begin-spec =
+    tie.close
+    (tie.spec
+    (λ c κs. search needs)
+    (λ c. search needs)
+    (λ c κs. search needs)
+    (λ c κs. let z = c .before .before .before .before in rw (z .clear .ensures, length-replicate) (omega (arith, z .before .before .before .pre)))
+    (λ c. search needs)
+    (λ c.
+    let p = c .before .before in
+    let z = p .before .before .before .before .before in
+    let w = p .before .issued-direct in
+    begin-left (stateAs (z .before .before .before .args .s)) _ _ _ _ _ _ _ (z .clear .ensures) (p .put-words .ensures _ (laid-words (w .result) (search needs) (laidDirect refl) (w .ensures)))))
