@@ -16,7 +16,7 @@ extern "C" {
 #endif
 
 /* The interface's version. It is raised with every change that a caller can see. */
-#define NORTHBRIDGE_VERSION 1
+#define NORTHBRIDGE_VERSION 2
 
 /* Sizes in bytes. All words have 64 bits, the low byte first. */
 #define NORTHBRIDGE_REQUEST_SIZE 64

@@ -94,11 +94,11 @@ static void segments(void)
 static void children(void)
 {
     struct northbridge b = begun(ENTRIES);
-    uint64_t child, grandchild, code;
+    uint64_t whole, child, grandchild, code;
     CHECK(northbridge_derive(&b, 0, 0, sizeof memory + 1, ALL, 0).refusal == NORTHBRIDGE_BOUNDS);
     CHECK(northbridge_derive(&b, 0, 1, sizeof memory, ALL, 0).refusal == NORTHBRIDGE_BOUNDS);
-    code = northbridge_derive(&b, 0, 0, sizeof memory, NORTHBRIDGE_R, 0).first; /* the whole */
-    CHECK(read_one(&b, northbridge_at(code, sizeof memory - 1), 0) == 0 && northbridge_drop(&b, code).dropped == 1);
+    whole = northbridge_derive(&b, 0, 0, sizeof memory, NORTHBRIDGE_R, 0).first;
+    CHECK(read_one(&b, northbridge_at(whole, sizeof memory - 1), 0) == 0 && northbridge_drop(&b, whole).dropped == 1);
     CHECK(northbridge_derive(&b, 0, 0, 0, ALL, 0).refusal == NORTHBRIDGE_BAD_REQUEST);
     child = northbridge_derive(&b, 0, 1, sizeof memory - 2, NORTHBRIDGE_R | NORTHBRIDGE_X, 0).first;
     CHECK(northbridge_derive(&b, child, 0, 1, ALL, 0).refusal == NORTHBRIDGE_RIGHT);

@@ -65,7 +65,7 @@ pub use token::{Encoding, Token, TooFar};
 pub use words::{Argument, Words};
 
 /// The interface's version, which include/northbridge.h has too.
-pub const VERSION: u64 = 1;
+pub const VERSION: u64 = 2;
 
 /// How many bytes the interface's request, state and answer have.
 pub const REQUEST_BYTES: usize = 8 * Words::COUNT;

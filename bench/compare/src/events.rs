@@ -29,12 +29,13 @@ pub enum Event {
     DeepestLine,
     DerivedWhole,
     DerivedOneByte,
+    DerivedOnWhole,
     DerivedToTheEnd,
     DerivedPastTheEnd,
-    DerivedPastWords,
+    DerivedSumOverflows,
 }
 
-pub const EVENTS: [(Event, &str); 19] = [
+pub const EVENTS: [(Event, &str); 20] = [
     (Event::PassedOne, "a revoke passed over one nonce"),
     (Event::PassedTwo, "a revoke passed over two nonces"),
     (Event::RefusedByPassing, "a revoke was refused since all nonces left were passed over"),
@@ -51,9 +52,10 @@ pub const EVENTS: [(Event, &str); 19] = [
     (Event::DeepestLine, "a line of 1,023 links was walked"),
     (Event::DerivedWhole, "a derive of the whole was granted"),
     (Event::DerivedOneByte, "a derive of one byte, the whole, was granted"),
+    (Event::DerivedOnWhole, "a derive of a derived entry's whole was granted"),
     (Event::DerivedToTheEnd, "a derive from an offset up to the end was granted"),
     (Event::DerivedPastTheEnd, "a derive one byte past the end was refused"),
-    (Event::DerivedPastWords, "a derive with a sum beyond 64 bits was refused"),
+    (Event::DerivedSumOverflows, "a derive with a sum beyond 64 bits was refused"),
 ];
 
 #[derive(Clone, Debug, Default, PartialEq, Eq)]
@@ -106,15 +108,18 @@ impl Events {
     }
 
     fn derive(&mut self, seen: &Seen) {
-        let (offset, whole) = (seen.request.second, seen.entry(seen.named()).length());
+        let parent = seen.entry(seen.named());
+        let (offset, whole) = (seen.request.second, parent.length());
         let end = seen.request.length.checked_add(offset);
         let reached = seen.reply.refusal == 0 && end == Some(whole);
         self.add(Event::DerivedWhole, reached && offset == 0);
         self.add(Event::DerivedOneByte, reached && whole == 1);
+        let derived = parent.kind() == entry::INDIRECT;
+        self.add(Event::DerivedOnWhole, reached && offset == 0 && derived);
         self.add(Event::DerivedToTheEnd, reached && offset != 0);
         let refused = seen.reply.refusal == Check::Bounds as u64;
         self.add(Event::DerivedPastTheEnd, refused && end == Some(whole + 1));
-        self.add(Event::DerivedPastWords, refused && end.is_none());
+        self.add(Event::DerivedSumOverflows, refused && end.is_none());
     }
 
     fn given(&mut self, seen: &Seen) {

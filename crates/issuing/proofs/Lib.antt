@@ -1,1 +1,2 @@
+pub mod NonceLaws
 pub mod WriteLaws

@@ -59,6 +59,10 @@ pub passed-split : (xs ys : List Check) → Passed (xs ++ ys) → Passed xs × P
 passed-split [] ys h = (tt, h)
 passed-split (x ∷ xs) ys h = let r = passed-split xs ys (h .1) in ((h .0, r .0), r .1)
 
+pub passed-join : (xs ys : List Check) → Passed xs → Passed ys → Passed (xs ++ ys)
+passed-join [] ys h k = k
+passed-join (x ∷ xs) ys h k = (h .0, passed-join xs ys (h .1) k)
+
 pub passing : (cs : List Check) → Passed cs → verdict cs ≡ pass
 passing [] h = refl
 passing (c ∷ cs) h = rw (h .0) (passing cs (h .1))

@@ -1,4 +1,5 @@
--- 01's examples agree with the definitions, as one table: four packed tokens, the root entry, and cases 3, 4, 6 and 8 of the session.
+-- 01's examples agree with the definitions, as one table: four packed tokens, the root entry, and cases 3, 4, 6 and 8 of the session, case 6 as
+-- 02, paper 1, has it.
 -- Assumes nothing.
 use mathlib.Core.Path.{refl, ap}
 use mathlib.Core.List.{[], _∷_}

@@ -1,12 +1,13 @@
 -- A buffer passed on whole: derive's bounds, and what a derive of the whole opens.
 -- Assumes nothing.
-use mathlib.Core.Path.{_≡_, refl, sym, ap, _∙_}
+use mathlib.Core.Path.{_≡_, refl, ap, _∙_}
 use mathlib.Core.Logic.{_≢_}
-use mathlib.Core.Bool.{Bool, true, false, not, _&&_, _||_}
-use mathlib.Core.List.{List, [], _∷_}
-use Prim.Native.Nat.{ℕ, _+_, _≤_, _<_}
+use mathlib.Core.Bool.{Bool, true, false, false≢true, not, _&&_, _||_, cond}
+use mathlib.Core.List.{List, [], _∷_, _++_}
+use Prim.Native.Nat.{ℕ, zero, suc, _+_, _-_, _≤_, _<_}
 use native.Mathlib.Omega.{arith}
-use lib.Dec.{eqb, ltb}
+use native.Mathlib.Decide.{ℕ-discrete}
+use lib.Dec.{eqb, leb}
 use lib.ListN.{length}
 use borrow.Author.Tests.{eq-eqb, le-leb, leb-true, lt-ltb, ltb-true, ne-eqb}
 use Rattle.bits.proofs.TestLaws.{both}
@@ -19,21 +20,22 @@ use Rattle.machine.specs.Demand3.{Accepted}
 use Rattle.machine.specs.FromReset.{Sound}
 use Rattle.machine.specs.Given.{nameIn}
 use Rattle.machine.specs.Issuing.{issue, newNumber}
-use Rattle.machine.specs.Line.{isDead, isIll, linked, lineOf, parentNumber, walk}
+use Rattle.machine.specs.Line.{dead, ill, Line, linked, lineOf, lockedFrom, owner, ownerOf, parentNumber, walk}
 use Rattle.machine.specs.Operations.{childOf, Grant, grant, namedEntry, numberOf}
 use Rattle.machine.specs.Parts.{at, moved, mostEntries, mostMemory, put, size, spent, State}
 use Rattle.machine.specs.Requests.{access, Call, derive, rightOf, Way}
-use Rattle.machine.specs.Steps.{answer, decide, decision, Machine, pass, settle, step, stop, Verdict, verdict}
-use Rattle.machine.specs.Stops.{Check, checks, refusalNumber}
-use Rattle.machine.specs.WholeDerive.{accessCall, Bounds, deriveCall, PassedOn, Whole}
+use Rattle.machine.specs.Searches.{FirstFree}
+use Rattle.machine.specs.Steps.{answer, decide, Machine, pass, settle, step, stop, Verdict, verdict}
+use Rattle.machine.specs.Stops.{atRequest, Check, checks, needAll, noncesLeft, places, refusalNumber, settings, sizes, taskFits, transferFits}
+use Rattle.machine.specs.WholeDerive.{accessCall, AsExecuteOnly, Bounds, deriveCall, lengthOf, Parts, PassedOn, Whole}
 use Rattle.machine.specs.Writes.{Name, nameOf, tokenFor}
-use Rattle.machine.proofs.Basics.{neqb-true, range}
-use Rattle.machine.proofs.Choices.{by-cond}
-use Rattle.machine.proofs.Decided.{accepted, Passed, passing}
-use Rattle.machine.proofs.Fuel.{line-enough, number-first}
-use Rattle.machine.proofs.TableLaws.{at-other, at-same, in-table, size-put}
+use Rattle.machine.proofs.Basics.{link, neqb-true, owner-direct, parent, range}
+use Rattle.machine.proofs.Choices.{by-both, by-cond}
+use Rattle.machine.proofs.Decided.{accepted, AllTrue, need-all, Passed, passed-join, passing, sizes-passed, true-join}
+use Rattle.machine.proofs.Fuel.{line-enough, Live, number-first, walk-owns}
+use Rattle.machine.proofs.TableLaws.{at-other, at-same, in-table, length-put, size-put}
 use Rattle.machine.proofs.WriteLaws.{names}
-use Rattle.machine.proofs.Written.{Good, issue-indirect, parent-named, parent-tagged, recount-good}
+use Rattle.machine.proofs.Written.{Good, issue-indirect, parent-named, parent-tagged, recount-formed, recount-good}
 
 -- ---- derive's bounds
 
@@ -78,9 +80,31 @@ bounds σ k o l p c b = (
     told pass g h = λ e. omega arith
     told (stop r) g h = h
 
--- ---- the whole
+-- ---- parts and the whole
 
-module _ (σ : Machine) (fine : Sound σ) (k o l p c : ℕ) (b : List ℕ) (ok : Accepted σ (deriveCall k o l p c b)) where
+module _ (σ : Machine) (k p c : ℕ) (b : List ℕ) where
+  abbrev long : ℕ
+  long = lengthOf σ k
+
+  parts-granted : (o l : ℕ) → Accepted σ (deriveCall k o l p c b) → (o′ l′ : ℕ) → l′ ≢ 0 → l′ + o′ ≤ long → Accepted σ (deriveCall k o′ l′ p c b)
+  unfolding answer decide
+  parts-granted o l ok o′ l′ some ends =
+      let a : Passed (checks (length (σ .memory)) (σ .state) (σ .table) (derive k o l p c) b) = accepted σ (deriveCall k o l p c b) ok .0 in
+      let same : verdict (checks (length (σ .memory)) (σ .state) (σ .table) (derive k o′ l′ p c) b) ≡ verdict (checks (length (σ .memory)) (σ .state) (σ .table) (derive k o l p c) b) =
+      rw (ne-eqb l 0 (neqb-true l 0 (search)), ne-eqb l′ 0 some, le-leb (l + o) long (leb-true (l + o) long (search)), le-leb (l′ + o′) long ends) in
+      rw (same, passing (checks (length (σ .memory)) (σ .state) (σ .table) (derive k o l p c) b) a)
+
+pub parts : Parts
+unfolding Parts
+parts σ k o l p c b = parts-granted σ k p c b o l
+
+pub as-execute-only : AsExecuteOnly
+unfolding AsExecuteOnly decide
+as-execute-only σ k c b some = rw (ne-eqb (lengthOf σ k) 0 some, le-leb (lengthOf σ k + 0) (lengthOf σ k) (omega arith))
+
+-- ---- what a derive of the whole leaves
+
+module _ (σ : Machine) (fine : Sound σ) (k p c : ℕ) (b : List ℕ) (ok : Accepted σ (deriveCall k 0 (lengthOf σ k) p c b)) where
   abbrev m : ℕ
   m = length (σ .memory)
 
@@ -102,34 +126,23 @@ module _ (σ : Machine) (fine : Sound σ) (k o l p c : ℕ) (b : List ℕ) (ok :
   abbrev whole : Call
   whole = deriveCall k 0 (e .length) p c b
 
-  all : Passed (checks m s t (derive k o l p c) b)
-  all = accepted σ (deriveCall k o l p c b) ok .0
-
-  -- it passes its checks as the part does
-  same-verdict : verdict (checks m s t (derive k 0 (e .length) p c) b) ≡ verdict (checks m s t (derive k o l p c) b)
-  same-verdict =
-      let a : Passed (checks m s t (derive k o l p c) b) = all in
-      let some : l ≢ 0 = neqb-true l 0 (search) in
-      let ends : l + o ≤ e .length = leb-true (l + o) (e .length) (search) in
-      rw (ne-eqb l 0 some, ne-eqb (e .length) 0 (λ z. some (omega arith)), le-leb (l + o) (e .length) ends, le-leb (e .length + 0) (e .length) (omega arith))
-
-  whole-granted : Accepted σ whole
-  unfolding answer decide
-  whole-granted = rw (same-verdict, passing (checks m s t (derive k o l p c) b) all)
-
-  -- ---- the child and its parent, as the derive leaves them
+  all : Passed (checks m s t (derive k 0 (e .length) p c) b)
+  all = accepted σ whole ok .0
 
   full : e .kind ≢ 0
-  full = let a : Passed (checks m s t (derive k o l p c) b) = all in neqb-true (e .kind) 0 (search)
+  full = let a : Passed (checks m s t (derive k 0 (e .length) p c) b) = all in neqb-true (e .kind) 0 (search)
 
-  found : new ≢ 0
-  found = let a : Passed (checks m s t (derive k o l p c) b) = all in neqb-true new 0 (search)
+  first : FirstFree t (s .last) (size t - 1) new
+  first = let a : Passed (checks m s t (derive k 0 (e .length) p c) b) = all in number-first s t (neqb-true new 0 (search))
+
+  most : size t ≤ 1024
+  most = let a : Passed (checks m s t (derive k 0 (e .length) p c) b) = all in leb-true (size t) mostEntries (search)
+
+  left-nonce : s .next + 1 ≤ spent
+  left-nonce = let a : Passed (checks m s t (derive k 0 (e .length) p c) b) = all in leb-true (s .next + 1) spent (search)
 
   good : Good m e
   good = record { storable = fine .storable n full; formed = fine .formed n full; lockable = fine .lockable n; counted = fine .counted n }
-
-  most : size t ≤ 1024
-  most = let a : Passed (checks m s t (derive k o l p c) b) = all in leb-true (size t) mostEntries (search)
 
   low : n < 1024
   low = omega (arith, in-table t n full, most)
@@ -139,40 +152,71 @@ module _ (σ : Machine) (fine : Sound σ) (k o l p c : ℕ) (b : List ℕ) (ok :
 
   child-good : Good m child
   child-good =
-      let a : Passed (checks m s t (derive k o l p c) b) = all in
+      let a : Passed (checks m s t (derive k 0 (e .length) p c) b) = all in
       let r = range m e full (good .formed) in
-      issue-indirect m s new n (leb-true m mostMemory (search)) good low (r .0) (omega (arith, r .1)) (omega (arith, leb-true p 7 (search)))
-      (omega (arith, leb-true (s .next + 1) spent (search)))
+      issue-indirect m s new n (leb-true m mostMemory (search)) good low (r .0) (omega (arith, r .1)) (omega (arith, leb-true p 7 (search))) (omega (arith, left-nonce))
 
   abbrev counted : Entry
   counted = recounted e (e .count + 1)
 
   counted-good : Good m counted
   counted-good =
-      let a : Passed (checks m s t (derive k o l p c) b) = all in
+      let a : Passed (checks m s t (derive k 0 (e .length) p c) b) = all in
       recount-good m good full (omega (arith, ltb-true (e .count) 65535 (search))) (λ i. omega arith)
 
   abbrev t′ : List ℕ
   t′ = put (put t new child) n counted
 
+  -- the child is there; of every other entry at most the count has changed
   there : at t′ new ≡ child
-  there =
-      let first = number-first s t found in
-      at-other (put t new child) n new counted (λ z. full (rw z at (first .free))) ∙ at-same t new child (child-good .storable) (first .inside)
+  there = at-other (put t new child) n new counted (λ z. full (rw z at (first .free))) ∙ at-same t new child (child-good .storable) (first .inside)
 
-  above : at t′ n ≡ counted
-  above = at-same (put t new child) n counted (counted-good .storable) (rw size-put (in-table t n full))
+  recounted-there : (j : ℕ) → at t j .kind ≢ 0 → (i : ℕ) × (at t′ j ≡ recounted (at t j) i)
+  recounted-there j f = go (ℕ-discrete j n)
+    where
+      go : Dec (j ≡ n) → (i : ℕ) × (at t′ j ≡ recounted (at t j) i)
+      go (yes z) = (e .count + 1, rw z (at-same (put t new child) n counted (counted-good .storable) (rw size-put (in-table t n full))))
+      go (no z) = (at t j .count, at-other (put t new child) n j counted z ∙ at-other t new j child (λ y. f (rw y (first .free))))
+
+  -- so that a live line stays as it is
+  same-up : (f j : ℕ) → at t j .kind ≢ 0 → Live (walk f m t j) → walk f m t′ j ≡ walk f m t j
+  unfolding walk
+  same-up zero j h = λ l. absurd (false≢true (l .1))
+  same-up (suc f) j h =
+      let r = recounted-there j h in
+      rw (r .1, recount-formed m (at t j) (r .0))
+      (by-both Same (illFormed m (at t j)) (λ i l. absurd (false≢true (l .0)))
+      (λ i. by-both Same (eqb (at t j .kind) 1) (λ d l. refl)
+      (λ d. by-cond (λ (y : Line). Same (cond (linked t′ (recounted (at t j) (r .0))) (walk f m t′ (parentNumber (at t j))) (dead j)) y) (linked t (at t j))
+      (λ i l.
+      let up = recounted-there (parentNumber (at t j)) (link (at t j) (parent t j) i .full) in
+      let same : linked t′ (recounted (at t j) (r .0)) ≡ true = rw (up .1) i in
+      rw same (same-up f (parentNumber (at t j)) (link (at t j) (parent t j) i .full) l))
+      (λ i l. absurd (false≢true (l .1))))))
+    where
+      Same : Line → Line → Type 0
+      Same x y = Live y → x ≡ y
 
   -- the link holds, so that the child's line is its parent's
   number-above : parentNumber child ≡ n
   number-above = parent-named m n e good low
 
   linked-above : linked t′ child ≡ true
-  linked-above = rw (number-above, above, ne-eqb (e .kind) 0 full, parent-tagged m n e good low, eq-eqb (e .tag) (e .tag) refl, lt-ltb (e .nonce) (s .next) (fine .below n full))
+  linked-above =
+      rw (number-above, recounted-there n full .1, ne-eqb (e .kind) 0 full, parent-tagged m n e good low, eq-eqb (e .tag) (e .tag) refl, lt-ltb (e .nonce) (s .next) (fine .below n full))
 
-  same-line : lineOf m t′ new ≡ lineOf m t′ n
+  same-parent : Live (lineOf m t n) → lineOf m t′ n ≡ lineOf m t n
+  same-parent l = ap (λ (x : Entry). walk (suc (x .nonce)) m t′ n) (recounted-there n full .1) ∙ same-up (suc (e .nonce)) n full l
+
+  same-line : Live (lineOf m t n) → lineOf m t′ new ≡ lineOf m t n
   unfolding walk
-  same-line = rw (there, child-good .formed, linked-above, number-above) (line-enough (s .next) m t′ n (rw above (fine .below n full)))
+  same-line l = rw (there, child-good .formed, linked-above, number-above) (line-enough (s .next) m t′ n (rw (recounted-there n full .1) (fine .below n full)) ∙ same-parent l)
+
+  -- and its lock too
+  same-lock : (l : Line) (u : ℕ) → at t (ownerOf l) .kind ≢ 0 → Live l → lockedFrom t′ u l ≡ lockedFrom t u l
+  same-lock (owner o) u f l = ap (λ (z : Entry). z .locked && not (eqb (z .holder) u)) (recounted-there o f .1)
+  same-lock (dead o) u f l = absurd (false≢true (l .1))
+  same-lock (ill o) u f l = absurd (false≢true (l .0))
 
   -- ---- accesses through both
 
@@ -181,20 +225,23 @@ module _ (σ : Machine) (fine : Sound σ) (k o l p c : ℕ) (b : List ℕ) (ok :
 
   token-names : nameIn token ≡ nameOf new child
   token-names =
-      let a : Passed (checks m s t (derive k o l p c) b) = all in
-      names s c new (childOf n e 0 (e .length) p (s .next)) (leb-true c 3 (search)) (omega (arith, number-first s t found .inside, most))
+      let a : Passed (checks m s t (derive k 0 (e .length) p c) b) = all in
+      names s c new (childOf n e 0 (e .length) p (s .next)) (leb-true c 3 (search)) (omega (arith, first .inside, most))
+
+  abbrev s′ : State
+  s′ = moved s new (s .next + 1)
 
   abbrev σ′ : Machine
-  σ′ = record { state = moved s new (s .next + 1); table = t′; memory = σ .memory }
+  σ′ = record { state = s′; table = t′; memory = σ .memory }
 
   left : step σ whole ≡ σ′
   unfolding step
-  left = rw (accepted σ whole whole-granted .1)
+  left = rw (accepted σ whole ok .1)
 
   module _ (w : Way) (allowed : within (rightOf w) p ≡ true) (x y u : ℕ) (d : List ℕ) (nx : nameIn x ≡ nameIn token) (ny : nameIn y ≡ nameIn k) (ox : named x .offset ≡ named y .offset)
-      (open′ : Accepted σ′ (accessCall w y u d)) where
-    through : Passed (checks m (σ′ .state) t′ (access w y u) d)
-    through = accepted σ′ (accessCall w y u d) open′ .0
+      (opened : Accepted σ (accessCall w y u d)) where
+    through : Passed (checks m s t (access w y u) d)
+    through = accepted σ (accessCall w y u d) opened .0
 
     at-x : numberOf x ≡ new
     at-x = ap (λ (z : Name). z .number) (nx ∙ token-names)
@@ -205,40 +252,72 @@ module _ (σ : Machine) (fine : Sound σ) (k o l p c : ℕ) (b : List ℕ) (ok :
     tag-x : named x .tag ≡ child .tag
     tag-x = ap (λ (z : Name). z .tag) (nx ∙ token-names)
 
-    -- the checks of the one come to what those of the other come to
-    same-checks : verdict (checks m (σ′ .state) t′ (access w x u) d) ≡ verdict (checks m (σ′ .state) t′ (access w y u) d)
-    same-checks =
-        let h : Passed (checks m (σ′ .state) t′ (access w y u) d) = through in
-        let inside : ltb (numberOf x) (size t′) ≡ true = rw at-x (search) in
-        let taken : not (eqb (at t′ (numberOf x) .kind) 0) ≡ true = rw (at-x, there) in
-        let tagged : eqb (at t′ (numberOf x) .tag) (named x .tag) ≡ true = rw (at-x, there, tag-x) (eq-eqb (child .tag) (child .tag) refl) in
-        let line : lineOf m t′ (numberOf x) ≡ lineOf m t′ (numberOf y) = rw (at-x, at-y) same-line in
-        let held : within (rightOf w) (at t′ (numberOf x) .permissions) ≡ true = rw (at-x, there) allowed in
-        let long : at t′ (numberOf x) .length ≡ at t′ (numberOf y) .length = rw (at-x, at-y, there, above) in
-        let inside′ : ltb (numberOf y) (size t′) ≡ true = search in
-        let taken′ : not (eqb (at t′ (numberOf y) .kind) 0) ≡ true = search in
-        let tagged′ : eqb (at t′ (numberOf y) .tag) (named y .tag) ≡ true = search in
-        let formed : not (isIll (lineOf m t′ (numberOf y))) ≡ true = search in
-        let alive : not (isDead (lineOf m t′ (numberOf y))) ≡ true = search in
-        let held′ : within (rightOf w) (at t′ (numberOf y) .permissions) ≡ true = search in
-        rw (inside, taken, tagged, line, held, ox, long, inside′, taken′, tagged′, formed, alive, held′)
+    -- place 1
+    asked : AllTrue (sizes m t′ ++ (settings s′ t′ ++ (taskFits u ∷ transferFits d)))
+    asked =
+        let h : Passed (checks m s t (access w y u) d) = through in
+        let long : length t′ ≡ length t = length-put _ _ _ ∙ length-put _ _ _ in
+        let wide : size t′ ≡ size t = size-put _ _ _ ∙ size-put _ _ _ in
+        true-join (sizes m t′) (settings s′ t′ ++ (taskFits u ∷ transferFits d)) (rw (long, wide) (sizes-passed m s t (access w y u) d h))
+        (true-join (settings s′ t′) (taskFits u ∷ transferFits d)
+        (rw wide (lt-ltb new (size t) (first .inside)), (le-leb 1 (s .next + 1) (omega arith), (le-leb (s .next + 1) spent left-nonce, tt)))
+        (search, (search, (search, tt))))
 
-    same-decision : decision σ′ (accessCall w x u d) ≡ decision σ′ (accessCall w y u d)
-    unfolding decide
-    same-decision =
+    -- the others
+    abbrev others : List Check
+    others = places m s′ t′ (access w x u) d .tokens ++ (places m s′ t′ (access w x u) d .rest ++ (noncesLeft s′ t′ (grant m t′ (access w x u) d) ∷ []))
+
+    found : Passed others
+    found =
+        let h : Passed (checks m s t (access w y u) d) = through in
+        let live : Live (lineOf m t n) = rw (← at-y) (search, search) in
+        let owned : at t (ownerOf (lineOf m t n)) .kind ≢ 0 = λ z. omega (arith, owner-direct (walk-owns (suc (e .nonce)) m t n full live)) in
+        let line : lineOf m t′ (numberOf x) ≡ lineOf m t n = rw at-x (same-line live) in
+        let open′ : not (lockedFrom t u (lineOf m t n)) ≡ true = rw (← at-y) (search) in
+        let ends : leb (named y .offset + length d) (e .length) ≡ true = rw (← at-y) (search) in (
+          rw (at-x, size-put, size-put) (lt-ltb new (size t) (first .inside)),
+          (
+            rw (at-x, there),
+            (
+              rw (at-x, there, tag-x) (eq-eqb (child .tag) (child .tag) refl),
+              (
+                rw line (live .0),
+                (
+                  rw line (live .1),
+                  (
+                    rw (line, same-lock (lineOf m t n) u owned live) open′,
+                    (
+                      rw (at-x, there) allowed,
+                      (
+                        rw (at-x, there, ox) ends,
+                        (le-leb (s .next + 1) spent left-nonce, tt),
+                      ),
+                    ),
+                  ),
+                ),
+              ),
+            ),
+          ),
+        )
+
+    passes : Passed (checks m s′ t′ (access w x u) d)
+    passes =
+        let bs : List Bool = sizes m t′ ++ (settings s′ t′ ++ (taskFits u ∷ transferFits d)) in
+        passed-join (needAll atRequest bs) others (need-all atRequest bs asked) found
+
+    same-opens : (answer σ′ (accessCall w x u d) ≡ answer σ (accessCall w y u d)) × (step σ′ (accessCall w x u d) .memory ≡ step σ (accessCall w y u d) .memory)
+    unfolding answer step decide
+    same-opens =
         let front : e .base + 0 ≡ e .base = omega arith in
-        rw (same-checks, passing (checks m (σ′ .state) t′ (access w y u) d) through, ox, at-x, at-y, there, above, front)
-
-    same-opens : (answer σ′ (accessCall w x u d) ≡ answer σ′ (accessCall w y u d)) × (step σ′ (accessCall w x u d) ≡ step σ′ (accessCall w y u d))
-    unfolding answer step
-    same-opens = (rw same-decision, rw same-decision)
+        let to = passing (checks m s′ t′ (access w x u) d) passes in
+        let from = passing (checks m s t (access w y u) d) through in
+        (rw (to, from, ox, at-x, at-y, there, front), rw (to, from, ox, at-x, at-y, there, front))
 
   passed-on : PassedOn σ k p whole
   unfolding answer
   passed-on = record {
-    granted = whole-granted;
     token = token;
-    carried = rw (accepted σ whole whole-granted .1);
+    carried = rw (accepted σ whole ok .1);
     opens = λ w allowed x y u d nx ny ox. rw left (same-opens w allowed x y u d nx ny ox);
   }
 

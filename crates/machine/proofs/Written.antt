@@ -112,20 +112,24 @@ issue-indirect m s k n {e} {b} {l} {p} {ν} h1 good h2 h3 h4 h5 h6 =
       counted = λ i. omega arith;
     }
 
-pub recount-good : (m : ℕ) {e : Entry} {k : ℕ} → Good m e → e .kind ≢ 0 → k < 65536 → (e .kind ≡ 2 → 1 ≤ k) → Good m (recounted e k)
+-- a count is no matter of form
+pub recount-formed : (m : ℕ) (e : Entry) (k : ℕ) → illFormed m (recounted e k) ≡ illFormed m e
 unfolding illFormed
-recount-good m {e} {k} g n h c = record { storable = go (g .storable); formed = same (e .kind) ∙ g .formed; lockable = g .lockable; counted = c }
+recount-formed m e k = same (e .kind)
   where
-    go : Storable e → Storable (recounted e k)
-    go (isFree i) = absurd (n (ap (λ (x : Entry). x .kind) i))
-    go (isDirect i p z f) = isDirect i p z (omega arith)
-    go (isIndirect i q u f) = isIndirect i q u (omega arith)
-
     same : (x : ℕ) → orSome false (faultsOf x m (recounted e k)) ≡ orSome false (faultsOf x m e)
     same zero = refl
     same (suc zero) = refl
     same (suc (suc zero)) = refl
     same (suc (suc (suc x))) = refl
+
+pub recount-good : (m : ℕ) {e : Entry} {k : ℕ} → Good m e → e .kind ≢ 0 → k < 65536 → (e .kind ≡ 2 → 1 ≤ k) → Good m (recounted e k)
+recount-good m {e} {k} g n h c = record { storable = go (g .storable); formed = recount-formed m e k ∙ g .formed; lockable = g .lockable; counted = c }
+  where
+    go : Storable e → Storable (recounted e k)
+    go (isFree i) = absurd (n (ap (λ (x : Entry). x .kind) i))
+    go (isDirect i p z f) = isDirect i p z (omega arith)
+    go (isIndirect i q u f) = isIndirect i q u (omega arith)
 
 -- the holder is zero just if the entry is not locked
 pub relock-good : (m : ℕ) {e : Entry} {locked : Bool} {h : ℕ} → Good m e → e .kind ≡ 1 → h < 2 ^ 55 → (locked && eqb h 0) ≡ false → (not locked && not (eqb h 0)) ≡ false → Good m (relocked e locked h)

@@ -164,7 +164,7 @@ abbrev pub rightsHeld : ℕ → Entry → Check
 rightsHeld p e = need atRight (within p (e .permissions))
 
 -- "outside the segment, derive's sum, or not neighbours in order": what ends so many bytes after the base lies inside; the second begins where the
--- first ends. Derive's sum is such an end (02, paper 1): "From now on length + offset may equal the segment's length."
+-- first ends
 abbrev pub endsInside : ℕ → Entry → Check
 endsInside n e = need atBounds (leb n (e .length))
 
@@ -230,6 +230,7 @@ places m s t (merge j k u c) b =
       tokens = reachable m t j u ++ reachable m t k u;
       rest = needAll atKind (isDirect d ∷ isDirect e ∷ []) ++ (neighbours d e ∷ needAll atStanding (unlocked d ∷ unlocked e ∷ uncounted d ∷ uncounted e ∷ []));
     }
+-- 02, paper 1: "From now on length + offset may equal the segment's length."
 places m s t (derive k o l p c) b =
     let e = namedEntry t k in
     record {

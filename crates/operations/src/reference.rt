@@ -13,7 +13,7 @@ ghost use Rattle.table.specs.States.{stateAs};
 ghost use Rattle.rulings.specs.Rulings.{handed, rulingOn};
 
 impl State {
-    // A token for a part of the segment, with no permission that its parent has not.
+    // A token for a part of the segment, or for all of it, with no permission that its parent has not.
     pub fn derive(
         mut self,
         table: &mut [u8],

@@ -1,4 +1,4 @@
-// Derive makes a child over a part of the segment.
+// Derive makes a child over a part of the segment, or over all of it.
 use crate::child::allot_child;
 use crate::child::grant_child;
 use checks::bounds::inside;
@@ -108,7 +108,7 @@ fn grant_derive(
     )
 }
 
-// A token for a part of the segment, with no permission that its parent has not.
+// A token for a part of the segment, or for all of it, with no permission that its parent has not.
 pub fn derive(
     mut s: StateWords,
     table: &mut [u8],

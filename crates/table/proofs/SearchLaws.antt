@@ -1,4 +1,4 @@
--- The searches for a number and for a nonce, a step at a time.
+-- The search for a number, a step at a time.
 -- Assumes nothing.
 use mathlib.Core.Path.{_≡_, refl, sym, _∙_}
 use mathlib.Core.Bool.{Bool, true, false, cond}
@@ -8,9 +8,8 @@ use native.Mathlib.Omega.{arith}
 use lib.Dec.{eqb}
 use lib.ListN.{length}
 use borrow.Author.Tests.{eq-eqb, le-ltb, lt-ltb, ne-eqb, not-true}
-use Rattle.layout.specs.declared.entry.Entry.{Entry}
-use Rattle.machine.specs.Issuing.{after, issue, passOver, seek}
-use Rattle.machine.specs.Parts.{at, size, spent, State}
+use Rattle.machine.specs.Issuing.{after, seek}
+use Rattle.machine.specs.Parts.{at, size}
 use Rattle.bits.proofs.TestLaws.{both}
 use Rattle.table.specs.Searches.{firstFree, fourTaken, taken}
 
@@ -105,28 +104,3 @@ module _ (t : List ℕ) (last later : ℕ) (full : 64 ≤ length t) (given : las
 
   pub seek-round : (first : ℕ) → later ≡ 0 → first ≡ firstFree (last + 1 - 1) t 1 → first ≡ seek (size t - 1) t last
   seek-round first h e = e ∙ sym (both-ways ∙ rw (eq-eqb _ _ h))
-
-pass-step : (tries : ℕ) (s : State) (n : ℕ) (e : ℕ → Entry) (old ν : ℕ) → 0 < tries
-    → passOver tries s n e old ν ≡ cond (eqb (issue s n (e ν) .tag) old) (passOver (tries - 1) s n e old (ν + 1)) ν
-unfolding passOver
-pass-step zero s n e old ν h = absurd (omega arith)
-pass-step (suc tries) s n e old ν h = let z : suc tries - 1 ≡ tries = omega arith in rw z
-
--- the ways on from a nonce with which the entry has the tag g
-module _ (s : State) (n : ℕ) (e : ℕ → Entry) (old next ν g : ℕ)
-    (inv : passOver (spent - next) s n e old next ≡ passOver (spent - ν) s n e old ν) (left : ν < spent) (tagged : g ≡ issue s n (e ν) .tag) where
-  step-nonce : passOver (spent - next) s n e old next ≡ cond (eqb g old) (passOver (spent - ν - 1) s n e old (ν + 1)) ν
-  step-nonce = inv ∙ pass-step (spent - ν) s n e old ν (omega arith) ∙ rw (← tagged)
-
-  pub pass-found : (g ≡ old → ⊥) → ν ≡ passOver (spent - next) s n e old next
-  pass-found h = sym (step-nonce ∙ rw (ne-eqb _ _ h))
-
-  pub pass-on : g ≡ old → passOver (spent - next) s n e old next ≡ passOver (spent - (ν + 1)) s n e old (ν + 1)
-  pass-on h = let less : spent - ν - 1 ≡ spent - (ν + 1) = omega arith in step-nonce ∙ rw (eq-eqb _ _ h, less)
-
-pub pass-none : (s : State) (n : ℕ) (e : ℕ → Entry) (old next ν : ℕ) → passOver (spent - next) s n e old next ≡ passOver (spent - ν) s n e old ν → spent ≤ ν
-    → ν ≡ passOver (spent - next) s n e old next
-unfolding passOver
-pass-none s n e old next ν inv h =
-    let none : spent - ν ≡ 0 = omega arith in
-    sym (inv ∙ rw none refl)

@@ -22,7 +22,7 @@ use Rattle.machine.specs.Issuing.{passOver, seek}
 use Rattle.machine.specs.Line.{walk}
 use Rattle.machine.specs.Lent.{AllBytes, LentBytes}
 use Rattle.machine.specs.Unchanged.{HeldDrop, LockAgain}
-use Rattle.machine.specs.WholeDerive.{PassedOn, Whole}
+use Rattle.machine.specs.WholeDerive.{deriveCall, Parts, PassedOn, Whole}
 use Rattle.machine.specs.Writes.{Name, tokenFor}
 use Rattle.machine.specs.Parts.{at, cleared, put, size}
 use Rattle.machine.specs.Requests.{Call, reading}
@@ -34,7 +34,7 @@ use Rattle.machine.proofs.FromReset.{from-reset}
 use Rattle.machine.proofs.Lent.{bytes-stay}
 use Rattle.machine.proofs.Theorem.{alike-refl, demand3}
 use Rattle.machine.proofs.Unchanged.{held-drop, lock-again}
-use Rattle.machine.proofs.WholeDerive.{whole-passed}
+use Rattle.machine.proofs.WholeDerive.{parts, whole-passed}
 
 -- ---- a token derived before the lock is closed by the revoke
 
@@ -169,11 +169,16 @@ pub all-met :
 unfolding Depth walkMeets climbMeets before bytes number lowBytes lowNumber directNumber directOf entryNumber entryOf indirectNumber indirectOf illFormed within absorb add64 compress finish padded rotl siphash sipRound word tagOf passOver seek walk at cleared put size decide step answer
 all-met = (depth 8 (run before (reset1 1 ∷ derives ∷ []) .table) 1 (omega arith), refl, refl, refl)
 
--- ---- a buffer passed on whole: the root of 8 bytes, of which a part may be passed on; and a root of one byte
+-- ---- a buffer passed on whole: the root of 8 bytes, and a root of one byte
 
-pub passed-on : PassedOn (step before (reset1 1)) 0 4 (passes 8)
+-- as bytes 2 to 4 may be passed on, so may the last one alone
+pub last-passed : Accepted (step before (reset1 1)) (deriveCall 0 7 1 4 0 [])
+unfolding Parts before bytes number lowBytes lowNumber directNumber directOf entryNumber entryOf indirectNumber indirectOf illFormed within absorb add64 compress finish padded rotl siphash sipRound word tagOf passOver seek walk at cleared put size decide step answer
+last-passed = parts (step before (reset1 1)) 0 2 3 4 0 [] refl 7 1 (λ z. omega arith) (omega arith)
+
+pub whole-passed-on : PassedOn (step before (reset1 1)) 0 4 (passes 8)
 unfolding FromReset Whole before bytes number lowBytes lowNumber directNumber directOf entryNumber entryOf indirectNumber indirectOf illFormed within absorb add64 compress finish padded rotl siphash sipRound word tagOf passOver seek walk at cleared put size decide step answer
-passed-on = whole-passed (step before (reset1 1)) (from-reset before 0 0 1 [] refl [] tt) 0 2 3 4 0 [] refl
+whole-passed-on = whole-passed (step before (reset1 1)) (from-reset before 0 0 1 [] refl [] tt) 0 4 0 [] refl
 
 -- its last byte is read through what was given, and none beyond
 pub last-read :
@@ -182,6 +187,6 @@ pub last-read :
 unfolding before bytes number lowBytes lowNumber directNumber directOf entryNumber entryOf indirectNumber indirectOf illFormed within absorb add64 compress finish padded rotl siphash sipRound word tagOf passOver seek walk at cleared put size decide step answer
 last-read = (refl, refl)
 
-pub one-byte-passed : PassedOn (step single (reset1 1)) 0 4 (passes 1)
+pub one-byte-passed-on : PassedOn (step single (reset1 1)) 0 4 (passes 1)
 unfolding FromReset Whole single bytes number lowBytes lowNumber directNumber directOf entryNumber entryOf indirectNumber indirectOf illFormed within absorb add64 compress finish padded rotl siphash sipRound word tagOf passOver seek walk at cleared put size decide step answer
-one-byte-passed = whole-passed (step single (reset1 1)) (from-reset single 0 0 1 [] refl [] tt) 0 0 1 4 0 [] refl
+one-byte-passed-on = whole-passed (step single (reset1 1)) (from-reset single 0 0 1 [] refl [] tt) 0 4 0 [] refl

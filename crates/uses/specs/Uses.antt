@@ -94,9 +94,10 @@ single = record { state = record { key0 = 0; key1 = 0; last = 0; next = 0 }; tab
 abbrev pub passes : (length : ℕ) → Call
 passes l = deriveCall 0 0 l 4 0 []
 
--- what is given for the root of 8 bytes; its last byte is read, and one beyond
+-- what is given for the root of 8 bytes
 abbrev pub passed : Name
 passed = record { number = 1; tag = 59639 }
 
+-- one byte at an offset, through it
 abbrev pub readPassed : (offset : ℕ) → Call
 readPassed o = accessCall reading (tokenFor 0 passed + o) 0 (0 ∷ [])

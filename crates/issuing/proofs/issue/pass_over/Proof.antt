@@ -8,7 +8,7 @@ use Rattle.layout.specs.Entry.{dated, entryOf, wordsNumber}
 use Rattle.machine.specs.Issuing.{passOver}
 use Rattle.machine.specs.Parts.{spent}
 use Rattle.table.specs.States.{stateAs}
-use Rattle.table.proofs.SearchLaws.{pass-found, pass-none, pass-on}
+use Rattle.issuing.proofs.NonceLaws.{pass-found, pass-none, pass-on}
 use Rattle.issuing.proofs.issue.pass_over.Statement.{statement}
 use Rattle.issuing.proofs.issue.pass_over.Tie as tie
 
