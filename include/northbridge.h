@@ -16,13 +16,17 @@ extern "C" {
 #endif
 
 /* The interface's version. It is raised with every change that a caller can see. */
-#define NORTHBRIDGE_VERSION 2
+#define NORTHBRIDGE_VERSION 3
 
 /* Sizes in bytes. All words have 64 bits, the low byte first. */
 #define NORTHBRIDGE_REQUEST_SIZE 64
 #define NORTHBRIDGE_STATE_SIZE 32
-#define NORTHBRIDGE_ANSWER_SIZE 40
+#define NORTHBRIDGE_ANSWER_SIZE 48
 #define NORTHBRIDGE_ENTRY_SIZE 32
+
+/* The most that an access moves, and the most that a load's or a dump's text has, in bytes. */
+#define NORTHBRIDGE_ACCESS_MOST 4096
+#define NORTHBRIDGE_TEXT_MOST 65536
 
 /*
  * The words of a request, by their index. Words that an operation does not use are not looked at.
@@ -41,6 +45,10 @@ extern "C" {
  *     10 lock           token, task
  *     11 unlock         token, task
  *     12 revoke         token, encoding
+ *     13 load           token, task; what the buffer's text says goes to the segment
+ *     14 dump           token, task; the segment goes to the buffer's front as text
+ *
+ * The text of a load and of a dump is Intel HEX with records of the types 00, 01 and 04, each ending in a line feed.
  */
 enum northbridge_request_word {
     NORTHBRIDGE_OPERATION = 0,
@@ -66,7 +74,9 @@ enum northbridge_operation {
     NORTHBRIDGE_DROP = 9,
     NORTHBRIDGE_LOCK = 10,
     NORTHBRIDGE_UNLOCK = 11,
-    NORTHBRIDGE_REVOKE = 12
+    NORTHBRIDGE_REVOKE = 12,
+    NORTHBRIDGE_LOAD = 13,
+    NORTHBRIDGE_DUMP = 14
 };
 
 enum northbridge_permission {
@@ -89,7 +99,8 @@ enum northbridge_answer_word {
     NORTHBRIDGE_PLACE = 1,   /* of refusals 3 and 4: 1 the named entry, 2 an ancestor; else 0 */
     NORTHBRIDGE_FIRST = 2,
     NORTHBRIDGE_SECOND_TOKEN = 3,
-    NORTHBRIDGE_DROPPED = 4 /* drop's number */
+    NORTHBRIDGE_DROPPED = 4,    /* drop's number */
+    NORTHBRIDGE_ANSWER_LENGTH = 5 /* the length in bytes of what stands at the buffer's front, a dump's text */
 };
 
 enum northbridge_refusal {
@@ -104,7 +115,10 @@ enum northbridge_refusal {
     NORTHBRIDGE_BOUNDS = 8,      /* outside the segment, derive's sum, or not neighbours in order */
     NORTHBRIDGE_STANDING = 9,    /* locked, or the count forbids it */
     NORTHBRIDGE_NO_NUMBER = 10,  /* no free number */
-    NORTHBRIDGE_NO_NONCE = 11    /* too few nonces */
+    NORTHBRIDGE_NO_NONCE = 11,   /* too few nonces */
+    NORTHBRIDGE_MALFORMED = 12,  /* a record of a load's text, or its ending, is malformed */
+    NORTHBRIDGE_CHECKSUM = 13,   /* a record's checksum is wrong */
+    NORTHBRIDGE_NO_ROOM = 14     /* a dump's text is longer than the buffer, or than 65,536 bytes */
 };
 
 /*
@@ -116,17 +130,18 @@ enum northbridge_refusal {
  *     state     32 bytes
  *     table     2 to 1,024 entries of 32 bytes
  *     memory    1 to 16,777,216 bytes
- *     buffer    what a read or fetch fills and a write stores, 1 to 4,096 bytes; no other request looks at it
- *     answer    40 bytes
+ *     buffer    what a read or fetch fills and a write stores, 1 to 4,096 bytes; the text that a load reads, at most 65,536 bytes; a
+ *               dump's output, of any length, at whose front its text is written; no other request looks at it
+ *     answer    48 bytes
  *
  * What the caller must see to: each slice has as many bytes as its length says; no two slices overlap; and nothing else reads or writes
- * them during the call, except that others may read the request and a write's buffer, which are only read. Nothing is asked of the bytes,
- * nor of the lengths: any bytes and any lengths have a defined answer.
+ * them during the call, except that others may read the request and the buffer of a write or a load, which are only read. Nothing is asked
+ * of the bytes, nor of the lengths: any bytes and any lengths have a defined answer.
  *
  * The proof is about slices, and a slice has a pointer that is not null. The compiled code does not look at a slice of length 0, so that a
  * null pointer with length 0 is answered as an empty slice. A null pointer with another length is a slice that is not there: a fault.
  *
- * A refused request changes nothing but the answer. An operation above 12, or a request, state or answer of another length, is refusal 1;
+ * A refused request changes nothing but the answer. An operation above 14, or a request, state or answer of another length, is refusal 1;
  * an answer of another length is then left as it was.
  */
 uint64_t northbridge_serve(
@@ -161,6 +176,7 @@ struct northbridge_answer {
     uint64_t first;
     uint64_t second;
     uint64_t dropped;
+    uint64_t length; /* of a dump's text, in bytes */
 };
 
 /* A request, as northbridge_serve takes it. */
@@ -229,6 +245,7 @@ static inline struct northbridge_answer northbridge_ask(
     answer.first = northbridge_word(told, NORTHBRIDGE_FIRST);
     answer.second = northbridge_word(told, NORTHBRIDGE_SECOND_TOKEN);
     answer.dropped = northbridge_word(told, NORTHBRIDGE_DROPPED);
+    answer.length = northbridge_word(told, NORTHBRIDGE_ANSWER_LENGTH);
     return answer;
 }
 
@@ -349,6 +366,30 @@ static inline struct northbridge_answer northbridge_revoke(struct northbridge *b
     return northbridge_ask(bridge, &request, NULL, 0);
 }
 
+/* What the text, Intel HEX, says is written to what the token names, all of it or nothing. The text is only read; the token has no offset. */
+static inline struct northbridge_answer northbridge_load(
+    struct northbridge *bridge, uint64_t token, uint64_t task, const void *text, size_t length)
+{
+    struct northbridge_request request = northbridge_request_of(NORTHBRIDGE_LOAD, token);
+    northbridge_set(&request, NORTHBRIDGE_TASK, task);
+    return northbridge_ask(bridge, &request, (void *)(uintptr_t)text, length);
+}
+
+/* How many bytes the text has that a dump of so many bytes writes: what its buffer must have. */
+static inline uint64_t northbridge_text_length(uint64_t bytes)
+{
+    return 28 + 44 * (bytes / 16) + (bytes % 16 ? 12 + 2 * (bytes % 16) : 0);
+}
+
+/* All bytes of what the token names go to the buffer's front as Intel HEX. Length: the text's; what stands behind it stays. */
+static inline struct northbridge_answer northbridge_dump(
+    struct northbridge *bridge, uint64_t token, uint64_t task, void *buffer, size_t length)
+{
+    struct northbridge_request request = northbridge_request_of(NORTHBRIDGE_DUMP, token);
+    northbridge_set(&request, NORTHBRIDGE_TASK, task);
+    return northbridge_ask(bridge, &request, buffer, length);
+}
+
 /* ---- Tokens. Any 64-bit word is some token's. */
 
 /* This word names a number beyond every table: each request that names an entry by it is refused. */
@@ -423,6 +464,9 @@ static inline const char *northbridge_refusal_text(uint64_t refusal)
     case NORTHBRIDGE_STANDING: return "standing forbids it";
     case NORTHBRIDGE_NO_NUMBER: return "no free number";
     case NORTHBRIDGE_NO_NONCE: return "too few nonces";
+    case NORTHBRIDGE_MALFORMED: return "malformed record or ending";
+    case NORTHBRIDGE_CHECKSUM: return "wrong checksum";
+    case NORTHBRIDGE_NO_ROOM: return "no room for the output";
     default: return "no refusal of the interface";
     }
 }

@@ -92,6 +92,36 @@ static void operations(void)
     CHECK(made.refusal == 0 && made.second == 0);
 }
 
+/* A segment as text, and such text into an equal segment. */
+static void texts_of_segments(void)
+{
+    struct northbridge b = begun();
+    static const char image[] = ":0400020001020304F0\n:00000001FF\n"; /* a load only reads it */
+    static const char written[] = ":020000040000FA\n:06000000000001020304F0\n:00000001FF\n";
+    const size_t length = sizeof written - 1;
+    struct northbridge_answer made = northbridge_create(&b, 0, 0, 6, 0, NORTHBRIDGE_R | NORTHBRIDGE_W, 0), told;
+    uint8_t buffer[80];
+    memset(memory, 0, 6);
+    CHECK(northbridge_load(&b, made.first, 9, image, sizeof image - 1).refusal == 0);
+    CHECK(!memcmp(memory, "\0\0\1\2\3\4", 6));
+    memset(buffer, 0xa5, sizeof buffer);
+    told = northbridge_dump(&b, made.first, 9, buffer, sizeof buffer);
+    CHECK(told.refusal == 0 && told.length == length && !memcmp(buffer, written, length) && buffer[length] == 0xa5);
+    told = northbridge_dump(&b, made.first, 0, buffer, length);
+    CHECK(told.refusal == 0 && told.length == length);
+    told = northbridge_dump(&b, made.first, 0, buffer, length - 1);
+    CHECK(told.refusal == NORTHBRIDGE_NO_ROOM && told.length == 0);
+    memset(memory, 7, 6);
+    CHECK(northbridge_load(&b, made.first, 0, written, length).refusal == 0 && !memcmp(memory, "\0\0\1\2\3\4", 6));
+    CHECK(northbridge_load(&b, made.first, 0, written, length - 1).refusal == NORTHBRIDGE_MALFORMED);
+    CHECK(northbridge_load(&b, made.first, 0, ":00000001FE\n", 12).refusal == NORTHBRIDGE_CHECKSUM);
+    CHECK(northbridge_load(&b, made.first, 0, ":010006005A9F\n:00000001FF\n", 26).refusal == NORTHBRIDGE_BOUNDS);
+    CHECK(northbridge_load(&b, northbridge_at(made.first, 1), 0, image, sizeof image - 1).refusal == NORTHBRIDGE_BAD_REQUEST);
+    CHECK(northbridge_dump(&b, northbridge_at(made.first, 1), 0, buffer, sizeof buffer).refusal == NORTHBRIDGE_BAD_REQUEST);
+    CHECK(northbridge_load(&b, made.first, 0, NULL, 0).refusal == NORTHBRIDGE_MALFORMED);
+    CHECK(northbridge_dump(&b, made.first, 0, NULL, 0).refusal == NORTHBRIDGE_NO_ROOM);
+}
+
 /* Paper 01's packed tokens, and what has no room. */
 static void tokens(void)
 {
@@ -135,7 +165,7 @@ static void refused(void)
     struct northbridge b = begun();
     uint8_t buffer[1] = {0};
     uint64_t operation;
-    for (operation = NORTHBRIDGE_READ; operation <= NORTHBRIDGE_REVOKE; operation++) {
+    for (operation = NORTHBRIDGE_READ; operation <= NORTHBRIDGE_DUMP; operation++) {
         struct northbridge_request request = northbridge_request_of(operation, NORTHBRIDGE_NO_TOKEN);
         northbridge_set(&request, NORTHBRIDGE_TASK, 1);
         northbridge_set(&request, NORTHBRIDGE_LENGTH, 1);
@@ -156,7 +186,7 @@ static void refused(void)
 static void texts(void)
 {
     uint64_t refusal;
-    for (refusal = 0; refusal <= NORTHBRIDGE_NO_NONCE + 1; refusal++) {
+    for (refusal = 0; refusal <= NORTHBRIDGE_NO_ROOM + 1; refusal++) {
         printf("%d %s\n", (int)refusal, northbridge_refusal_text(refusal));
     }
     printf("version %d\n", NORTHBRIDGE_VERSION);
@@ -166,6 +196,7 @@ int main(void)
 {
     fifteen_cases();
     operations();
+    texts_of_segments();
     tokens();
     refused();
     texts();

@@ -48,7 +48,7 @@ int main(void)
     ask(NORTHBRIDGE_READ, 0);
     if (serve(0) != NORTHBRIDGE_GRANTED) return fail("not granted", 1, 0);
     /* Whatever else is null, a missing part is refused and nothing is written but an answer. */
-    for (operation = 0; operation <= 14; operation++) {
+    for (operation = 0; operation <= 16; operation++) {
         for (nulls = 1; nulls < 1 << SLICES; nulls++) {
             if (!(nulls & needed)) continue;
             ask(operation, 1);
@@ -57,11 +57,15 @@ int main(void)
             if (memcmp(before, bytes, ANSWER * sizeof bytes[0])) return fail("bytes changed", operation, nulls);
         }
     }
-    /* Without a buffer an access is refused, and the others are served. */
+    /* Without a buffer an access is refused; a load's text has no ending, a dump's no room; the others are served. */
     for (operation = NORTHBRIDGE_READ; operation <= NORTHBRIDGE_FETCH; operation++) {
         ask(operation, 1);
         if (serve(1 << BUFFER) != NORTHBRIDGE_BAD_REQUEST) return fail("not refusal 1", operation, 1 << BUFFER);
     }
+    ask(NORTHBRIDGE_LOAD, 1);
+    if (serve(1 << BUFFER) != NORTHBRIDGE_MALFORMED) return fail("not refusal 12", NORTHBRIDGE_LOAD, 1 << BUFFER);
+    ask(NORTHBRIDGE_DUMP, 1);
+    if (serve(1 << BUFFER) != NORTHBRIDGE_NO_ROOM) return fail("not refusal 14", NORTHBRIDGE_DUMP, 1 << BUFFER);
     ask(NORTHBRIDGE_LOCK, 1);
     if (serve(1 << BUFFER) != NORTHBRIDGE_GRANTED) return fail("not granted", NORTHBRIDGE_LOCK, 1 << BUFFER);
     return 0;

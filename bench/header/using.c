@@ -222,6 +222,47 @@ static void full_table(void)
     CHECK(northbridge_merge(&b, cut.first, cut.second, 0, 0).refusal == 0);
 }
 
+/* A load is written completely or not at all; a dump's text restores the bytes. */
+static void images(void)
+{
+    static const char image[] = ":020001000102FA\n:0100020003FA\n:00000001ff\n", crlf[] = ":00000001FF\r\n";
+    static const char start[] = ":0400000500000000F7\n:00000001FF\n", beyond[] = ":0100000009F6\n:0100140009E2\n:00000001FF\n";
+    static char text[NORTHBRIDGE_TEXT_MOST + 1];
+    const size_t most = NORTHBRIDGE_TEXT_MOST;
+    struct northbridge b = begun(ENTRIES);
+    uint64_t card = northbridge_derive(&b, 0, 100, 20, ALL, 0).first, n;
+    struct northbridge_answer told;
+    memset(memory, 7, 200);
+    CHECK(northbridge_load(&b, card, 0, image, sizeof image - 1).refusal == 0);
+    CHECK(!memcmp(memory + 99, "\7\7\1\3\7", 5)); /* the later record wins, other bytes stay */
+    CHECK(northbridge_load(&b, card, 0, crlf, sizeof crlf - 1).refusal == NORTHBRIDGE_MALFORMED);
+    CHECK(northbridge_load(&b, card, 0, start, sizeof start - 1).refusal == NORTHBRIDGE_MALFORMED);
+    CHECK(northbridge_load(&b, card, 0, beyond, sizeof beyond - 1).refusal == NORTHBRIDGE_BOUNDS && memory[100] == 7);
+    CHECK(northbridge_load(&b, card, 0, text, most).refusal == NORTHBRIDGE_MALFORMED);
+    CHECK(northbridge_load(&b, card, 0, text, most + 1).refusal == NORTHBRIDGE_BAD_REQUEST);
+    CHECK(northbridge_load(&b, card + 1, 0, image, sizeof image - 1).refusal == NORTHBRIDGE_BAD_REQUEST);
+    for (n = 1; n < 40; n++) { /* the text's length, and the bytes again */
+        uint64_t part = northbridge_derive(&b, 0, 100, n, ALL, 0).first;
+        uint8_t before[40];
+        memcpy(before, memory + 100, n);
+        told = northbridge_dump(&b, part, 0, text, most);
+        CHECK(told.refusal == 0 && told.length == northbridge_text_length(n));
+        CHECK(told.length == 28 + 44 * (n / 16) + (n % 16 ? 12 + 2 * (n % 16) : 0));
+        memset(memory + 100, 0, n);
+        CHECK(northbridge_load(&b, part, 0, text, told.length).refusal == 0 && !memcmp(memory + 100, before, n));
+        CHECK(northbridge_drop(&b, part).dropped == 1);
+    }
+    card = northbridge_derive(&b, 0, 0, 23820, NORTHBRIDGE_R, 0).first;
+    CHECK(northbridge_dump(&b, card, 0, text, most).length == most);
+    CHECK(northbridge_load(&b, card, 0, image, sizeof image - 1).refusal == NORTHBRIDGE_RIGHT);
+    card = northbridge_derive(&b, 0, 0, 23821, NORTHBRIDGE_R | NORTHBRIDGE_W, 0).first;
+    CHECK(northbridge_dump(&b, card, 0, text, most).refusal == NORTHBRIDGE_NO_ROOM);
+    CHECK(northbridge_lock(&b, card, HOLDER).refusal == 0);
+    CHECK(northbridge_load(&b, card, OTHER, image, sizeof image - 1).refusal == NORTHBRIDGE_LOCKED);
+    CHECK(northbridge_dump(&b, card, OTHER, text, most).refusal == NORTHBRIDGE_LOCKED);
+    CHECK(northbridge_load(&b, card, OTHER, crlf, sizeof crlf - 1).refusal == NORTHBRIDGE_MALFORMED); /* 12 before 5 */
+}
+
 /* Children up to 1,023 in a line. */
 static void longest_line(void)
 {
@@ -259,6 +300,7 @@ int main(void)
     locks();
     revokes();
     full_table();
+    images();
     longest_line();
     nonces();
     return failures != 0;

@@ -45,7 +45,7 @@ static void check(
     int right = asked[0] == operation && !memcmp(asked + 1, words, (WORDS - 1) * sizeof words[0]);
     right = right && answer.refusal == 0x0807060504030201 && answer.place == 0x100f0e0d0c0b0a09;
     right = right && answer.first == 0x1817161514131211 && answer.second == 0x201f1e1d1c1b1a19;
-    right = right && answer.dropped == 0x2827262524232221;
+    right = right && answer.dropped == 0x2827262524232221 && answer.length == 0x302f2e2d2c2b2a29;
     right = right && (with_buffer ? lent == buffer && lent_length == sizeof buffer : lent != NULL && lent_length == 0);
     if (!right) {
         printf("header/words.c: %s\n", what);
@@ -77,7 +77,9 @@ int main(void)
     check(northbridge_lock(&b, token, task), 10, by_task, 0, "lock");
     check(northbridge_unlock(&b, token, task), 11, by_task, 0, "unlock");
     check(northbridge_revoke(&b, token, code), 12, encoded, 0, "revoke");
-    if (b.state[0] != 13) {
+    check(northbridge_load(&b, token, task, buffer, sizeof buffer), 13, by_task, 1, "load");
+    check(northbridge_dump(&b, token, task, buffer, sizeof buffer), 14, by_task, 1, "dump");
+    if (b.state[0] != 15) {
         printf("header/words.c: the state is not the one that was lent\n");
         failures++;
     }

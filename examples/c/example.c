@@ -1,6 +1,6 @@
 /*
- * A hook station's card writes a record of twelve bytes, the weigher's task holds it, and another card tries to read it. From the
- * repository's root:
+ * A hook station's card writes a record of twelve bytes, the weigher's task holds it, and another card tries to read it; then a card's
+ * firmware is loaded. From the repository's root:
  *
  *     ./build-library
  *     cc -Iinclude examples/c/example.c -Ltarget/staticlib -lnorthbridge -o target/example && target/example
@@ -25,7 +25,8 @@ static struct northbridge_answer said(const char *what, struct northbridge_answe
 int main(void)
 {
     static const char record[12] = "A4711 093.5";
-    char seen[12] = "";
+    static const char firmware[] = ":0300010048692E1D\n:00000001FF\n";
+    char seen[12] = "", text[64];
 
     /* The root is all of memory, and its token is 0. The key is to be secret. */
     struct northbridge bridge = northbridge_over(table, sizeof table, memory, sizeof memory);
@@ -49,5 +50,12 @@ int main(void)
     said("the card writes", northbridge_write(&bridge, card, 0, record, sizeof record));
     said("drop", northbridge_drop(&bridge, card));
     said("read", northbridge_read(&bridge, northbridge_at(records, 36), 0, seen, sizeof seen));
+
+    /* A card's firmware comes as Intel HEX, and goes into the card's buffer whole or not at all. A dump is such text again. */
+    uint64_t buffer = said("derive", northbridge_derive(&bridge, records, 0, 5, NORTHBRIDGE_R | NORTHBRIDGE_W, 0)).first;
+    said("load", northbridge_load(&bridge, buffer, 0, firmware, sizeof firmware - 1));
+    said("load of a part", northbridge_load(&bridge, buffer, 0, firmware, 20));
+    struct northbridge_answer told = said("dump", northbridge_dump(&bridge, buffer, 0, text, sizeof text));
+    printf("%.*s", (int)told.length, text);
     return seen[0];
 }

@@ -19,6 +19,22 @@
 //! # Ok::<(), Box<dyn std::error::Error>>(())
 //! ```
 //!
+//! A load writes what a card's HEX text says, and a dump tells a segment as such text:
+//!
+//! ```
+//! # use bridge::{Northbridge, Refusal, Task, Token};
+//! # let (mut table, mut memory) = ([0; 4 * 32], [0; 4]);
+//! # let mut bridge = Northbridge::reset([1, 2], 1, &mut table, &mut memory)?;
+//! let image = b":03000100010203F6\n:00000001FF\n";
+//! bridge.load(Token::ROOT, Task::NONE, image)?;
+//! let mut text = [0; 64];
+//! let length = bridge.dump(Token::ROOT, Task::NONE, &mut text)?;
+//! assert_eq!(&text[..length], b":020000040000FA\n:0400000000010203F6\n:00000001FF\n");
+//! let refused = bridge.load(Token::ROOT, Task::NONE, b":00000001FF\r\n").unwrap_err();
+//! assert_eq!(refused, Refusal::Malformed);
+//! # Ok::<(), Refusal>(())
+//! ```
+//!
 //! An access is no request of [`Northbridge::ask`], since it needs a buffer:
 //!
 //! ```compile_fail,E0599
@@ -56,7 +72,7 @@ mod words;
 
 pub use answer::{Granted, Reply};
 pub use bytes::{put_words, words_of};
-pub use operation::{Buffer, Operation};
+pub use operation::{text_length, Buffer, Operation, ACCESS_BYTES, TEXT_BYTES};
 pub use refusal::{refusal_words, Check, Place, Refusal};
 pub use request::Request;
 pub use rights::{Permissions, Task};
@@ -65,7 +81,7 @@ pub use token::{Encoding, Token, TooFar};
 pub use words::{Argument, Words};
 
 /// The interface's version, which include/northbridge.h has too.
-pub const VERSION: u64 = 2;
+pub const VERSION: u64 = 3;
 
 /// How many bytes the interface's request, state and answer have.
 pub const REQUEST_BYTES: usize = 8 * Words::COUNT;
@@ -92,7 +108,7 @@ impl<'a> Northbridge<'a> {
         Ok(bridge)
     }
 
-    /// Serves a request that is no access.
+    /// Serves a request that brings no buffer.
     pub fn ask(&mut self, request: &Request) -> Result<Granted, Refusal> {
         self.served(&request.words(), &mut [])
     }
@@ -109,11 +125,27 @@ impl<'a> Northbridge<'a> {
 
     /// The bytes go to an address.
     pub fn write(&mut self, address: Token, task: Task, bytes: &[u8]) -> Result<(), Refusal> {
-        let request = Words::access(Operation::Write, address, task);
+        self.brought(&Words::access(Operation::Write, address, task), bytes)
+    }
+
+    /// What HEX text says is written. The token has no offset.
+    pub fn load(&mut self, token: Token, task: Task, text: &[u8]) -> Result<(), Refusal> {
+        self.brought(&Words::access(Operation::Load, token, task), text)
+    }
+
+    /// All bytes that a token names go to the buffer's front as HEX text, whose length is told. The
+    /// token has no offset.
+    pub fn dump(&mut self, token: Token, task: Task, buffer: &mut [u8]) -> Result<usize, Refusal> {
+        let granted = self.served(&Words::access(Operation::Dump, token, task), buffer)?;
+        Ok(usize::try_from(granted.length).expect("a length inside the buffer"))
+    }
+
+    /// Serves a request that only reads its buffer: a write or a load.
+    fn brought(&mut self, request: &Words, bytes: &[u8]) -> Result<(), Refusal> {
         let Northbridge { state, table, memory } = self;
-        let reply = serve_with(&request, state, |request, state, answer| {
-            // The exclusive slices do not overlap the bytes, and a write only reads them:
-            // tests/typed.rs lends it bytes that cannot be written.
+        let reply = serve_with(request, state, |request, state, answer| {
+            // The exclusive slices do not overlap the bytes, and these requests only read them:
+            // tests/typed.rs lends them bytes that cannot be written.
             let brought = (bytes.as_ptr().cast_mut(), bytes.len());
             unsafe { call_with(request, state, table, memory, brought, answer) }
         });
@@ -153,9 +185,12 @@ fn serve_with(
     put_words(&mut asked, &request.in_order());
     put_words(&mut lent, &state.in_order());
     let mut answer = [0; ANSWER_BYTES];
-    call(&asked, &mut lent, &mut answer);
+    let returned = call(&asked, &mut lent, &mut answer);
     *state = State::from_order(words_of(&lent));
-    Reply::from_order(words_of(&answer))
+    let reply = Reply::from_order(words_of(&answer));
+    // A library of another version leaves an answer of another length as it was.
+    assert!(reply.refusal == returned, "a library of the interface's version {VERSION}");
+    reply
 }
 
 /// The interface's function over slices of any lengths. It returns the refusal.
@@ -177,7 +212,7 @@ pub fn call(
 ///
 /// # Safety
 /// The buffer is a slice that overlaps none of the others; it can be written, unless the request is
-/// a write; and nothing else writes it meanwhile.
+/// a write or a load; and nothing else writes it meanwhile.
 #[inline(always)]
 unsafe fn call_with(
     request: &[u8],

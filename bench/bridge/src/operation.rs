@@ -1,5 +1,7 @@
 //! The operations: one row each, from which the bench takes all that it knows of an operation.
 
+use std::ops::RangeInclusive;
+
 use crate::refusal::Check::{self, *};
 use crate::words::Argument::{self, *};
 
@@ -20,6 +22,8 @@ pub enum Operation {
     Lock = 10,
     Unlock = 11,
     Revoke = 12,
+    Load = 13,
+    Dump = 14,
 }
 
 /// What the buffer is to an operation.
@@ -27,10 +31,54 @@ pub enum Operation {
 pub enum Buffer {
     /// It is not looked at.
     Unused,
-    /// It is written.
+    /// It is written, from its first byte to its last.
     Filled,
     /// It is read.
     Brought,
+    /// It holds HEX text, which is read.
+    Text,
+    /// HEX text is written at its front; the answer tells how long that is.
+    Front,
+}
+
+impl Buffer {
+    /// Whether it is read alone.
+    pub const fn is_brought(self) -> bool {
+        matches!(self, Buffer::Brought | Buffer::Text)
+    }
+
+    /// Whether it is written, all of it or its front.
+    pub const fn is_written(self) -> bool {
+        matches!(self, Buffer::Filled | Buffer::Front)
+    }
+
+    /// Whether it holds HEX text, before or afterwards.
+    pub const fn is_text(self) -> bool {
+        matches!(self, Buffer::Text | Buffer::Front)
+    }
+
+    /// The lengths that are not refused for themselves.
+    pub const fn lengths(self) -> RangeInclusive<usize> {
+        match self {
+            Buffer::Filled | Buffer::Brought => 1..=ACCESS_BYTES,
+            Buffer::Text => 0..=TEXT_BYTES,
+            Buffer::Unused | Buffer::Front => 0..=usize::MAX,
+        }
+    }
+}
+
+/// How many bytes an access moves at most.
+pub const ACCESS_BYTES: usize = 4_096;
+
+/// How many bytes HEX text has at most.
+pub const TEXT_BYTES: usize = 65_536;
+
+/// How many bytes the text has that a dump of so many bytes writes: a record for the page, one for
+/// each 16 bytes and for those left over, and the end record.
+pub const fn text_length(bytes: u64) -> u64 {
+    let left_over = bytes % 16;
+    let last = if left_over == 0 { 0 } else { 12 + 2 * left_over };
+    28 + bytes / 16 * 44 + last
 }
 
 /// What is known of an operation.
@@ -44,17 +92,20 @@ struct Facts {
     tokens: &'static [&'static str],
     /// Whether a granted answer carries a number.
     number: bool,
-    /// The checks that it can stop at, by 01's table. Not possible are:
+    /// The checks that it can stop at, in their order: that of 01's table, and of paper 2 of 02 for
+    /// loads and dumps. Not possible are:
     /// - Dead of a drop: "dead; drop skips this";
-    /// - Lock, but for "access, create, merge, lock, unlock";
+    /// - Lock, but for "access, create, merge, lock, unlock", and loads and dumps, which "use the
+    ///   access checks";
     /// - Kind, but for "create, merge, revoke of an indirect entry";
     /// - Right of merge (it takes "the permissions both have"), clone, drop, unlock, revoke: none
     ///   asks for a permission, X or Lockable;
-    /// - Bounds, but for accesses, create, derive and merge: the others name no bytes ("without the
-    ///   sum");
+    /// - Bounds, but for accesses, loads, create, derive and merge: the others name no bytes
+    ///   ("without the sum"), and a dump names all that there are;
     /// - Standing, but for those that its row names;
     /// - Numbers, but for "create, derive, execute-only";
     /// - Nonces, but for those that issue: create, merge, derive, execute-only, revoke;
+    /// - Malformed and Checksum, but for loads, and Room, but for dumps;
     /// - and a reset looks at the sizes and the first nonce alone.
     checks: &'static [Check],
 }
@@ -158,6 +209,20 @@ const ROWS: &[Facts] = &[
         checks: &[Request, Entry, IllFormed, Dead, Kind, Nonces],
         ..of(Operation::Revoke)
     },
+    Facts {
+        name: "load",
+        arguments: &[Token, Task],
+        buffer: Buffer::Text,
+        checks: &[Request, Malformed, Checksum, Entry, IllFormed, Dead, Lock, Right, Bounds],
+        ..of(Operation::Load)
+    },
+    Facts {
+        name: "dump",
+        arguments: &[Token, Task],
+        buffer: Buffer::Front,
+        checks: &[Request, Entry, IllFormed, Dead, Lock, Right, Room],
+        ..of(Operation::Dump)
+    },
 ];
 
 /// The operations of the rows, each of which stands at its number.
@@ -242,8 +307,18 @@ impl Operation {
         self.facts().number
     }
 
+    /// Whether a granted answer carries a length: that of what it wrote at the buffer's front.
+    pub fn answers_length(self) -> bool {
+        self.buffer() == Buffer::Front
+    }
+
+    /// The checks that a request of it can be refused at, in their order.
+    pub fn checks(self) -> &'static [Check] {
+        self.facts().checks
+    }
+
     /// Whether a request of it can be refused at a check.
     pub fn stops_at(self, check: Check) -> bool {
-        self.facts().checks.contains(&check)
+        self.checks().contains(&check)
     }
 }

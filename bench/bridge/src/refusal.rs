@@ -25,9 +25,13 @@ pub enum Refusal {
     Standing,
     Numbers,
     Nonces,
+    Malformed,
+    Checksum,
+    Room,
 }
 
-/// The checks of 01's table "Where a request stops", by the numbers of their refusals.
+/// The checks of 01's table "Where a request stops" and of the papers of 02, by the numbers of their
+/// refusals.
 #[derive(Clone, Copy, Debug, PartialEq, Eq)]
 #[repr(u64)]
 pub enum Check {
@@ -42,6 +46,12 @@ pub enum Check {
     Standing = 9,
     Numbers = 10,
     Nonces = 11,
+    /// A record of HEX text, or its ending.
+    Malformed = 12,
+    /// A record's checksum.
+    Checksum = 13,
+    /// The output buffer, or the most that is written.
+    Room = 14,
 }
 
 /// A refusal alone, or one that tells a place.
@@ -65,6 +75,9 @@ const ROWS: &[(Check, &str, Form)] = &[
     (Check::Standing, "standing forbids it", Plain(Refusal::Standing)),
     (Check::Numbers, "no free number", Plain(Refusal::Numbers)),
     (Check::Nonces, "too few nonces", Plain(Refusal::Nonces)),
+    (Check::Malformed, "malformed record or ending", Plain(Refusal::Malformed)),
+    (Check::Checksum, "wrong checksum", Plain(Refusal::Checksum)),
+    (Check::Room, "no room for the output", Plain(Refusal::Room)),
 ];
 
 /// The rows stand by rising numbers; some may not be given yet.

@@ -1,4 +1,5 @@
-//! Requests, typed. An access is not among them: it brings a buffer, and is a call of its own.
+//! Requests, typed. Accesses, loads and dumps are not among them: each brings a buffer, and is a call
+//! of its own.
 
 use crate::operation::Operation;
 use crate::rights::{Permissions, Task};
@@ -106,7 +107,8 @@ impl Request {
 }
 
 impl Words {
-    /// The words of an access: one of the three ways, and where it begins.
+    /// The words of a request with a buffer: an access in one of the three ways, and where it begins;
+    /// a load or a dump, whose token has no offset.
     pub fn access(way: Operation, address: Token, task: Task) -> Words {
         Words { operation: way as u64, token: address.0, task: task.0, ..Words::default() }
     }

@@ -1,7 +1,9 @@
 //! The types that a caller has: tokens, tasks, permissions, requests and refusals.
 
-use bridge::{Check, Encoding, Northbridge, Operation, Permissions, Place, Refusal, Request};
-use bridge::{Task, Token, TooFar, Words};
+use bridge::{text_length, Task, Token, TooFar, Words, TEXT_BYTES};
+use bridge::{
+    Buffer, Check, Encoding, Northbridge, Operation, Permissions, Place, Refusal, Request,
+};
 
 /// A constant: it lies where nothing can be written.
 static RECORD: [u8; 4_097] = [0x5a; 4_097];
@@ -20,6 +22,76 @@ fn a_write_only_reads_its_bytes() {
     }
     assert_eq!(bridge.memory[..4_096], RECORD[..4_096]);
     assert!(bridge.memory[4_096..].iter().all(|byte| *byte == 0));
+}
+
+/// HEX text for two bytes, filled up by data records without bytes, and a byte more than text may
+/// have. It lies where nothing can be written.
+static IMAGE: [u8; TEXT_BYTES + 1] = image();
+
+const fn image() -> [u8; TEXT_BYTES + 1] {
+    const PARTS: [&[u8]; 3] = [b":020001000102FA\n", b":0000000000\n", b":00000001FF\n"];
+    let [front, empty, end] = PARTS;
+    let mut text = [b'\n'; TEXT_BYTES + 1];
+    let mut at = 0;
+    while at < TEXT_BYTES {
+        text[at] = match at {
+            _ if at < front.len() => front[at],
+            _ if at < TEXT_BYTES - end.len() => empty[(at - front.len()) % empty.len()],
+            _ => end[at + end.len() - TEXT_BYTES],
+        };
+        at += 1;
+    }
+    text
+}
+
+#[test]
+fn a_load_only_reads_its_text() {
+    let (mut table, mut memory) = ([0; 4 * 32], [0; 4]);
+    let mut bridge = Northbridge::reset([0, 0], 1, &mut table, &mut memory).unwrap();
+    let mut load = |text: &[u8]| bridge.load(Token::ROOT, Task::NONE, text);
+    assert_eq!(load(&IMAGE[..TEXT_BYTES]), Ok(()));
+    assert_eq!(load(&IMAGE), Err(Refusal::Request));
+    for length in (0..100).chain([TEXT_BYTES - 1]) {
+        assert_eq!(load(&IMAGE[..length]), Err(Refusal::Malformed), "{length}");
+    }
+    assert_eq!(load(b":00000001FE\n"), Err(Refusal::Checksum));
+    assert_eq!(load(b":010004005AA1\n:00000001FF\n"), Err(Refusal::Bounds));
+    assert_eq!(bridge.memory, [0, 1, 2, 0]);
+}
+
+#[test]
+fn a_dump_tells_its_length() {
+    let (mut table, mut memory) = ([0; 4 * 32], [0xc0, 0xff, 0xee]);
+    let mut bridge = Northbridge::reset([0, 0], 1, &mut table, &mut memory).unwrap();
+    let text = b":020000040000FA\n:03000000C0FFEE50\n:00000001FF\n";
+    let mut buffer = [0x5a; 64];
+    let length = bridge.dump(Token::ROOT, Task::NONE, &mut buffer).unwrap();
+    assert_eq!(&buffer[..length], text);
+    assert!(buffer[length..].iter().all(|byte| *byte == 0x5a));
+    let mut exact = vec![0; length];
+    assert_eq!(bridge.dump(Token::ROOT, Task::NONE, &mut exact), Ok(length));
+    let mut short = vec![7; length - 1];
+    assert_eq!(bridge.dump(Token::ROOT, Task::NONE, &mut short), Err(Refusal::Room));
+    assert!(short.iter().all(|byte| *byte == 7));
+    let granted = bridge.ask(&Request::Clone { token: Token::ROOT }).unwrap();
+    assert_eq!(granted.length, 0);
+}
+
+#[test]
+fn texts_have_their_lengths() {
+    assert_eq!([0, 1, 15, 16, 17].map(text_length), [28, 42, 70, 72, 86]);
+    assert_eq!([23_820, 23_821].map(text_length), [65_536, 65_538]);
+}
+
+/// Each operation with a buffer has its call, and no other.
+#[test]
+fn buffers_are_read_or_written() {
+    for operation in Operation::ALL {
+        let buffer = operation.buffer();
+        assert!(!(buffer.is_brought() && buffer.is_written()), "{operation:?}");
+        assert_eq!(buffer == Buffer::Unused, !buffer.is_brought() && !buffer.is_written());
+        assert_eq!(operation.answers_length(), operation == Operation::Dump);
+    }
 }
 
 #[test]
@@ -118,6 +190,8 @@ fn each_request_has_its_words() {
         Request::Lock { token, task }.words(),
         Request::Unlock { token, task }.words(),
         Request::Revoke { token, encoding }.words(),
+        Words::access(Operation::Load, token, task),
+        Words::access(Operation::Dump, token, task),
     ];
     for (operation, words) in Operation::ALL.into_iter().zip(all) {
         let values = [operation as u64, 1, 2, 3, 4, 5, 6, 3];

@@ -11,7 +11,7 @@ use session::World;
 use crate::line::Read;
 use crate::machine::Machine;
 use crate::process::Process;
-use crate::protocol::{self, GREETING, LINE, PIECE};
+use crate::protocol::{self, BUFFER, GREETING, LINE, PIECE};
 use crate::text::shortened;
 
 /// How long a program may take for an answer, if nothing else is said.
@@ -57,7 +57,12 @@ impl Simulator {
         self.asked.clear();
         self.sessions = 0;
         self.send(GREETING.as_bytes())?;
-        self.expect(GREETING)
+        let line = self.receive()?;
+        if line == GREETING {
+            return Ok(());
+        }
+        let expected = format!("expected {GREETING}, this version of the protocol");
+        Err(self.malformed(&line, &format!("{expected}; docs/SUPPLIER.md says what changed")))
     }
 
     fn process(&mut self) -> Result<&mut Process, Trouble> {
@@ -297,7 +302,7 @@ impl Server for Simulator {
     }
 
     fn longest(&self) -> usize {
-        PIECE
+        BUFFER
     }
 
     fn serve(

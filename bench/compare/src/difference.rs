@@ -41,8 +41,9 @@ impl Difference {
 }
 
 fn reply(f: &mut fmt::Formatter<'_>, reply: &Reply) -> fmt::Result {
-    let Reply { refusal, place, first, second, dropped } = reply;
-    write!(f, "refusal {refusal} place {place} tokens {first:x} {second:x} dropped {dropped}")
+    let Reply { refusal, place, first, second, dropped, length } = reply;
+    write!(f, "refusal {refusal} place {place} tokens {first:x} {second:x} ")?;
+    write!(f, "dropped {dropped} length {length}")
 }
 
 impl fmt::Display for Difference {

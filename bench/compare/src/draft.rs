@@ -76,7 +76,7 @@ impl Draft {
 
     /// Whether the first request is a reset.
     pub fn begins_with_reset(&self) -> bool {
-        self.parts.first().is_some_and(|part| part.request.operation == Operation::Reset as u64)
+        self.parts.first().is_some_and(Part::is_reset)
     }
 }
 
@@ -95,6 +95,10 @@ impl Draft {
 }
 
 impl Part {
+    pub fn is_reset(&self) -> bool {
+        self.request.operation == Operation::Reset as u64
+    }
+
     /// Puts its own token where one that it gave is used.
     fn stand_in(&self, source: &mut Source, word: &mut u64) {
         let Source::Given { part, encoding, offset, .. } = *source else {

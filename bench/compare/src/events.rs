@@ -3,7 +3,7 @@
 
 use std::fmt;
 
-use bridge::{Check, Operation, Place, Reply, State, Words};
+use bridge::{text_length, Check, Operation, Place, Reply, State, Words, TEXT_BYTES};
 use session::entry::{self, Entry};
 use session::token::Token;
 
@@ -33,9 +33,14 @@ pub enum Event {
     DerivedToTheEnd,
     DerivedPastTheEnd,
     DerivedSumOverflows,
+    LongestTextLoaded,
+    LongerTextRefused,
+    LongestTextDumped,
+    DumpTooLong,
+    DumpOneByteShort,
 }
 
-pub const EVENTS: [(Event, &str); 20] = [
+pub const EVENTS: [(Event, &str); 25] = [
     (Event::PassedOne, "a revoke passed over one nonce"),
     (Event::PassedTwo, "a revoke passed over two nonces"),
     (Event::RefusedByPassing, "a revoke was refused since all nonces left were passed over"),
@@ -56,16 +61,22 @@ pub const EVENTS: [(Event, &str); 20] = [
     (Event::DerivedToTheEnd, "a derive from an offset up to the end was granted"),
     (Event::DerivedPastTheEnd, "a derive one byte past the end was refused"),
     (Event::DerivedSumOverflows, "a derive with a sum beyond 64 bits was refused"),
+    (Event::LongestTextLoaded, "a load of 65,536 bytes of text was granted"),
+    (Event::LongerTextRefused, "a load of 65,537 bytes of text was refused"),
+    (Event::LongestTextDumped, "a dump of 65,536 bytes of text was granted"),
+    (Event::DumpTooLong, "a dump was refused whose text would have 65,538 bytes"),
+    (Event::DumpOneByteShort, "a dump was refused whose buffer lacked one byte"),
 ];
 
 #[derive(Clone, Debug, Default, PartialEq, Eq)]
 pub struct Events([u64; EVENTS.len()]);
 
 impl Events {
-    /// Looks at a request that was served; the machine stands as it was left.
+    /// Looks at a request that was served with a buffer of so many bytes; the machine stands as it was
+    /// left.
     pub fn count(
         &mut self,
-        request: &Words,
+        (request, lent): (&Words, usize),
         reply: &Reply,
         before: State,
         root_before: bool,
@@ -80,6 +91,8 @@ impl Events {
             Some(Operation::Revoke) => self.revoke(&seen),
             Some(Operation::Derive) => self.derive(&seen),
             Some(Operation::Clone) => self.add(Event::CountAtTop, seen.count_at_top()),
+            Some(Operation::Load) => self.load(&seen, lent),
+            Some(Operation::Dump) => self.dump(&seen, lent),
             Some(Operation::Read) => {
                 self.add(Event::LinkRefusedByNonce, seen.link_refused_by_nonce());
                 self.add(Event::DeepestLine, seen.deepest_line());
@@ -120,6 +133,20 @@ impl Events {
         let refused = seen.reply.refusal == Check::Bounds as u64;
         self.add(Event::DerivedPastTheEnd, refused && end == Some(whole + 1));
         self.add(Event::DerivedSumOverflows, refused && end.is_none());
+    }
+
+    fn load(&mut self, seen: &Seen, lent: usize) {
+        let refused = seen.reply.refusal == Check::Request as u64;
+        self.add(Event::LongestTextLoaded, seen.reply.refusal == 0 && lent == TEXT_BYTES);
+        self.add(Event::LongerTextRefused, refused && lent == TEXT_BYTES + 1);
+    }
+
+    fn dump(&mut self, seen: &Seen, lent: usize) {
+        self.add(Event::LongestTextDumped, seen.reply.length == TEXT_BYTES as u64);
+        let refused = seen.reply.refusal == Check::Room as u64;
+        let (told, most) = (text_length(seen.entry(seen.named()).length()), TEXT_BYTES as u64);
+        self.add(Event::DumpTooLong, refused && told == most + 2 && lent > TEXT_BYTES + 1);
+        self.add(Event::DumpOneByteShort, refused && told <= most && lent as u64 + 1 == told);
     }
 
     fn given(&mut self, seen: &Seen) {

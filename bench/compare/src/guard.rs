@@ -11,6 +11,7 @@ use session::server::Trouble;
 use session::World;
 
 use crate::machine::Machine;
+use crate::protocol::BUFFER;
 
 /// At which end of each slice the unmapped page is.
 #[derive(Clone, Copy, Debug, PartialEq, Eq)]
@@ -143,7 +144,7 @@ impl Guarded {
             state: Area::new(PAGE, guard)?,
             table: Area::new(PAGE, guard)?,
             memory: Area::new((1 << 24) + PAGE, guard)?,
-            buffer: Area::new(PAGE, guard)?,
+            buffer: Area::new(BUFFER, guard)?,
             answer: Area::new(PAGE, guard)?,
         })
     }

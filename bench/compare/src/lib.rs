@@ -12,6 +12,7 @@ mod draft;
 mod events;
 mod fault;
 mod guard;
+mod image;
 mod kinds;
 mod limits;
 mod line;

@@ -25,8 +25,9 @@ impl Pair {
         begun.map_err(Difference::Trouble)
     }
 
-    /// Serves one request on both. Refusal with place, tokens, drop's number, state and every byte
-    /// of table, memory and buffer must be the same; and a refusal must leave all as it was.
+    /// Serves one request on both. Refusal with place, tokens, drop's number, a text's length, state
+    /// and every byte of table, memory and buffer must be the same; and a refusal must leave all as
+    /// it was.
     pub fn ask(&mut self, request: &Words, buffer: &[u8]) -> Result<Reply, Difference> {
         replace(&mut self.mine, buffer);
         replace(&mut self.theirs, buffer);
@@ -47,9 +48,9 @@ impl Pair {
     /// After a refusal by the proved code, before the other machine is asked: the other still has
     /// what both had before, so that no copy is needed.
     fn unchanged(&self, reply: &Reply, before: State, buffer: &[u8]) -> Result<(), Difference> {
-        let given = (reply.first, reply.second, reply.dropped);
+        let given = [reply.first, reply.second, reply.dropped, reply.length];
         let parts = [
-            (given == (0, 0, 0), "answer's tokens or number"),
+            (given == [0; 4], "answer's tokens, number or length"),
             (self.reference.state() == before, "state"),
             (self.reference.table() == self.other.table(), "table"),
             (self.reference.memory() == self.other.memory(), "memory"),

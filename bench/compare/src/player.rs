@@ -38,7 +38,7 @@ pub struct Player<'a> {
 
 /// What a player answers once it has stopped.
 const STOPPED: Reply =
-    Reply { refusal: Check::Request as u64, place: 0, first: 0, second: 0, dropped: 0 };
+    Reply { refusal: Check::Request as u64, place: 0, first: 0, second: 0, dropped: 0, length: 0 };
 
 impl<'a> Player<'a> {
     /// A player that goes on from so many requests asked, to so many at most.
@@ -98,8 +98,8 @@ impl<'a> Player<'a> {
         match self.pair.ask(&request, buffer) {
             Ok(reply) => {
                 self.coverage.count(request.operation, &reply);
-                let machine = self.pair.reference.as_ref();
-                self.coverage.events.count(&request, &reply, before, root, machine);
+                let (machine, lent) = (self.pair.reference.as_ref(), buffer.len());
+                self.coverage.events.count((&request, lent), &reply, before, root, machine);
                 self.keep(request.operation, &reply);
                 reply
             }

@@ -2,11 +2,11 @@
 //! standard output.
 //!
 //! ```text
-//! northbridge 1                             northbridge 1
+//! northbridge 2                             northbridge 2
 //! world TABLE MEMORY KEY0 KEY1 LAST NEXT    ok
 //! table AT BYTES                            ok
 //! memory AT BYTES                           ok
-//! serve WORD0 .. WORD7 BUFFER               answer REFUSAL PLACE FIRST SECOND DROPPED
+//! serve WORD0 .. WORD7 BUFFER               answer REFUSAL PLACE FIRST SECOND DROPPED LENGTH
 //!                                                  KEY0 KEY1 LAST NEXT BUFFER
 //! show-table AT LENGTH                      bytes BYTES
 //! show-memory AT LENGTH                     bytes BYTES
@@ -16,19 +16,26 @@
 //! Numbers are hexadecimal without a prefix, bytes two digits each, and `-` stands for no bytes.
 //! `world` gives a table and a memory of so many zero bytes, and a state; `table` and `memory` put
 //! bytes into them; `serve` gives a request's eight words and its buffer. No line, asked or answered,
-//! holds more than 8,192 bytes, two digits each, or has more than 16,640 characters. A simulator
-//! flushes its output after each answer and ends at the end of its input.
+//! holds more than 8,192 bytes, two digits each, but for a buffer, which has at most 69,632; so none has
+//! more than 139,520 characters. A simulator flushes its output after each answer and ends at the end
+//! of its input.
 
 use bridge::{Reply, State, Words};
 
-/// The first line, and its answer.
-pub const GREETING: &str = "northbridge 1";
+/// The protocol's version. It is raised with every change that a simulator can see.
+const VERSION: &str = "2";
 
-/// How many bytes one line holds at most.
+/// The first line, and its answer.
+pub const GREETING: &str = "northbridge 2";
+
+/// How many bytes of table or memory one line holds at most.
 pub const PIECE: usize = 8_192;
 
+/// How many bytes a buffer has at most: more than HEX text may have.
+pub const BUFFER: usize = 69_632;
+
 /// How many characters one line has at most: two for each byte, and room for the words before them.
-pub const LINE: usize = 2 * PIECE + 256;
+pub const LINE: usize = 2 * BUFFER + 256;
 
 /// A line, read.
 #[derive(Clone, Debug, PartialEq, Eq)]
@@ -56,7 +63,7 @@ pub fn parse(line: &str) -> Result<Line, String> {
         ["memory", at, text] => put(Name::Memory, at, text),
         ["serve", ref rest @ .., buffer] => {
             let words = Words::from_order(numbers(rest)?);
-            Ok(Line::Serve { words, buffer: bytes(buffer)? })
+            Ok(Line::Serve { words, buffer: bytes(buffer, BUFFER)? })
         }
         ["show-table", at, length] => show(Name::Table, at, length),
         ["show-memory", at, length] => show(Name::Memory, at, length),
@@ -76,8 +83,8 @@ fn expected(word: Option<&str>) -> String {
 
 fn greeting(words: &[&str]) -> Result<Line, String> {
     match words {
-        ["1"] => Ok(Line::Greeting),
-        _ => Err("expected version 1".to_string()),
+        [VERSION] => Ok(Line::Greeting),
+        _ => Err(format!("expected version {VERSION}; docs/SUPPLIER.md says what changed")),
     }
 }
 
@@ -94,7 +101,7 @@ fn length(number: u64) -> Result<usize, String> {
 }
 
 fn put(part: Name, at: &str, text: &str) -> Result<Line, String> {
-    Ok(Line::Put { part, at: length(number(at)?)?, bytes: bytes(text)? })
+    Ok(Line::Put { part, at: length(number(at)?)?, bytes: bytes(text, PIECE)? })
 }
 
 fn show(part: Name, at: &str, wanted: &str) -> Result<Line, String> {
@@ -106,7 +113,7 @@ fn show(part: Name, at: &str, wanted: &str) -> Result<Line, String> {
 }
 
 /// What is expected of an answer.
-pub const ANSWER: &str = "expected answer, nine words and a buffer";
+pub const ANSWER: &str = "expected answer, ten words and a buffer";
 
 /// The reply, the state and the buffer of an answer.
 pub fn parse_answer(line: &str) -> Result<(Reply, State, Vec<u8>), String> {
@@ -117,7 +124,7 @@ pub fn parse_answer(line: &str) -> Result<(Reply, State, Vec<u8>), String> {
     let numbers: [u64; Reply::WORDS + State::WORDS] = numbers(rest)?;
     let reply = std::array::from_fn(|at| numbers[at]);
     let state = std::array::from_fn(|at| numbers[Reply::WORDS + at]);
-    Ok((Reply::from_order(reply), State::from_order(state), bytes(buffer)?))
+    Ok((Reply::from_order(reply), State::from_order(state), bytes(buffer, BUFFER)?))
 }
 
 /// The bytes of an answer, which must be as many as the place has.
@@ -147,12 +154,13 @@ fn numbers<const N: usize>(words: &[&str]) -> Result<[u64; N], String> {
     numbers.try_into().map_err(|_| format!("expected {N} words before the last, not {count}"))
 }
 
-fn bytes(text: &str) -> Result<Vec<u8>, String> {
+/// Up to so many bytes.
+fn bytes(text: &str, most: usize) -> Result<Vec<u8>, String> {
     if text == "-" {
         return Ok(Vec::new());
     }
-    if text.len() > 2 * PIECE {
-        return Err(format!("expected at most {PIECE} bytes, not {}", text.len() / 2));
+    if text.len() > 2 * most {
+        return Err(format!("expected at most {most} bytes, not {}", text.len() / 2));
     }
     if !text.len().is_multiple_of(2) {
         return Err("expected an even number of hexadecimal digits, or -".to_string());
@@ -218,7 +226,7 @@ mod tests {
     #[test]
     fn lines_are_read() {
         let state = State::from_order([1, 2, 3, 4]);
-        assert_eq!(parse("northbridge 1"), Ok(Line::Greeting));
+        assert_eq!(parse(GREETING), Ok(Line::Greeting));
         let world = Line::World { table: 64, memory: 16, state };
         assert_eq!(parse("world 40 10 1 2 3 4"), Ok(world));
         let put = Line::Put { part: Name::Memory, at: 10, bytes: vec![0xAB, 0] };
@@ -234,7 +242,7 @@ mod tests {
     fn bad_lines_say_what_was_expected() {
         let wrong = |line: &str| parse(line).unwrap_err();
         assert!(wrong("").contains("northbridge"));
-        assert!(wrong("northbridge 2").contains("version 1"));
+        assert!(wrong("northbridge 1").contains("version 2"));
         assert!(wrong("serve 1 2 -").contains("8 words"));
         assert!(wrong("serve +1 0 0 0 0 0 0 0 -").contains("'+1'"));
         assert!(wrong("table 0 abc").contains("even"));
@@ -250,6 +258,8 @@ mod tests {
         assert_eq!(table(PIECE + 1), Err("expected at most 8192 bytes, not 8193".to_string()));
         assert!(parse("show-memory 0 2000").is_ok());
         assert!(parse("show-memory 0 2001").unwrap_err().contains("at most 2000 bytes"));
+        let serve = |bytes: usize| parse(&format!("serve 0 0 0 0 0 0 0 0 {}", "00".repeat(bytes)));
+        assert!(serve(BUFFER).is_ok() && serve(BUFFER + 1).is_err());
     }
 
     /// The longest lines there are: a request with the widest words, and its answer.
@@ -259,7 +269,7 @@ mod tests {
         for (name, words) in [("serve", Words::COUNT), ("answer", words)] {
             let mut line = name.as_bytes().to_vec();
             write_numbers(&mut line, &vec![u64::MAX; words]);
-            write_bytes(&mut line, &[0; PIECE]);
+            write_bytes(&mut line, &[0; BUFFER]);
             assert!(line.len() <= LINE, "{name}: {}", line.len());
         }
     }

@@ -1,10 +1,11 @@
 //! Random requests over what stands now: mostly near to what can be granted, with each word now and
 //! then a little or far off.
 
-use bridge::{Argument, Operation, Words};
+use bridge::{text_length, Argument, Buffer, Operation, Words};
 use session::entry::{self, Entry};
 use session::token::{self, Token};
 
+use crate::image;
 use crate::player::Player;
 
 /// How often each operation is asked.
@@ -21,6 +22,8 @@ const WEIGHTS: [(Operation, u64); Operation::COUNT] = [
     (Operation::Lock, 7),
     (Operation::Unlock, 8),
     (Operation::Revoke, 5),
+    (Operation::Load, 3),
+    (Operation::Dump, 2),
     (Operation::Reset, 1),
 ];
 
@@ -55,6 +58,9 @@ pub const TASKS: [u64; 12] = [
     (1 << 56) - 1,
     u64::MAX,
 ];
+
+/// Longer segments are dumped to a buffer that is too short.
+const LONG: u64 = 1_000;
 
 /// Asks random requests.
 pub fn play(player: &mut Player, requests: usize) {
@@ -91,8 +97,26 @@ pub fn ask_through(player: &mut Player, operation: Operation, number: usize) {
         return access(player, operation, number, &entry);
     }
     let words = words(player, operation, number, &entry);
-    let buffer = if player.dice.once_in(16) { player.dice.bytes(3) } else { Vec::new() };
+    let buffer = match operation.buffer() {
+        Buffer::Text => image::text(&mut player.dice, entry.length()),
+        Buffer::Front => room(player, entry.length()),
+        _ if player.dice.once_in(16) => player.dice.bytes(3),
+        _ => Vec::new(),
+    };
     player.ask_with(words, buffer);
+}
+
+/// A buffer for the text of so many bytes: as long, a little longer or shorter, or empty.
+fn room(player: &mut Player, whole: u64) -> Vec<u8> {
+    let told = text_length(whole.min(LONG)) as usize;
+    let length = match player.dice.below(12) {
+        0 => 0,
+        1 | 2 => told - 1,
+        3 => player.dice.index(told),
+        4..=8 => told,
+        _ => told + 1 + player.dice.index(20),
+    };
+    player.dice.bytes(length)
 }
 
 /// The operations that name an entry, but for accesses.

@@ -5,9 +5,9 @@ use compare::{Guard, Guarded};
 
 const REQUEST: usize = 64;
 const STATE: usize = 32;
-const ANSWER: usize = 40;
-const LENGTHS: [usize; 17] =
-    [0, 1, 7, 8, 9, 31, 32, 33, 39, 40, 41, 63, 64, 65, 100, 4_096, 65_536];
+const ANSWER: usize = 48;
+const LENGTHS: [usize; 18] =
+    [0, 1, 7, 8, 9, 31, 32, 33, 40, 47, 48, 49, 63, 64, 65, 100, 4_096, 65_536];
 
 /// Calls with an access that would be granted, were the lengths right.
 fn call(guarded: &mut Guarded, [request, state, answer]: [usize; 3]) -> (u64, Vec<u8>) {

@@ -30,7 +30,7 @@ pub fn cases(way: Operation, depth: usize) -> Vec<Case> {
             size: bytes,
             world: built.world.clone(),
             request,
-            buffer: bytes,
+            buffer: vec![0xa5; bytes],
             limit,
         }
     };

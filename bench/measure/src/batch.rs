@@ -2,8 +2,8 @@
 //!
 //! A request that changes the table is asked once of each of several equal copies of state and
 //! table; the copies are restored between batches, outside the time taken. An access changes neither
-//! and is asked many times of one copy. Memory is not restored: a write stores the same bytes again
-//! and a revoke zeros what is zero, at the same cost.
+//! and is asked many times of one copy, and so are a load and a dump. Memory is not restored: a write
+//! and a load store the same bytes again and a revoke zeros what is zero, at the same cost.
 
 use std::hint::black_box;
 use std::time::Instant;
@@ -18,8 +18,9 @@ use crate::served::{self, Call};
 /// The copies together have about this many bytes, so that they stay in the nearest cache.
 const COPIED_BYTES: usize = 12_288;
 const MOST_COPIES: usize = 32;
-/// How often an access is asked in a batch.
+/// How often an access is asked in a batch, and how many bytes of a longer buffer about.
 const ACCESSES: usize = 32;
+const LENT_BYTES: usize = 131_072;
 
 /// Who is measured.
 #[derive(Clone, Copy, Debug, PartialEq, Eq)]
@@ -53,6 +54,8 @@ pub struct Batch {
     copies: Vec<Lent>,
     memory: Paged,
     buffer: Paged,
+    /// What a text is copied to, or from.
+    copied: Paged,
     passes: usize,
 }
 
@@ -64,13 +67,14 @@ impl Batch {
         let start =
             Lent { state, typed, table: case.world.table.clone(), answer: [0xff; ANSWER_BYTES] };
         let memory = Paged::new(&case.world.memory);
-        let buffer = Paged::new(&vec![0xa5; case.buffer]);
+        let (buffer, copied) = (Paged::new(&case.buffer), Paged::new(&case.buffer));
         let (copies, passes) = if case.repeats() {
-            (1, ACCESSES)
+            (1, (LENT_BYTES / case.buffer.len().max(1)).clamp(1, ACCESSES))
         } else {
             ((COPIED_BYTES / start.table.len()).clamp(1, MOST_COPIES), 1)
         };
-        Batch { request, copies: vec![start.clone(); copies], start, memory, buffer, passes, case }
+        let copies = vec![start.clone(); copies];
+        Batch { case, request, start, copies, memory, buffer, copied, passes }
     }
 
     /// The nanoseconds of one call: the batch runs untimed to warm the caches, then timed.
@@ -94,7 +98,7 @@ impl Batch {
     fn left_by(&mut self, call: Call) -> (Vec<Lent>, Vec<u8>, Vec<u8>) {
         self.restore();
         self.memory.copy_from_slice(&self.case.world.memory);
-        self.buffer.fill(0xa5);
+        self.buffer.copy_from_slice(&self.case.buffer);
         self.ask(call);
         (self.copies.clone(), self.memory.to_vec(), self.buffer.to_vec())
     }
@@ -145,6 +149,7 @@ impl Batch {
             match &self.case.limit {
                 Limit::Load(range) => limit::copy(&mut self.buffer, &self.memory[range.clone()]),
                 Limit::Store(range) => limit::copy(&mut self.memory[range.clone()], &self.buffer),
+                Limit::Text(_) => limit::copy(&mut self.copied, &self.buffer),
                 Limit::ClearTable => limit::clear(&mut copy.table),
                 Limit::Renew(range) => {
                     limit::clear(&mut self.memory[range.clone()]);

@@ -15,14 +15,19 @@ pub struct Case {
     /// What stands before the request.
     pub world: World,
     pub request: Words,
-    /// The buffer's bytes.
-    pub buffer: usize,
+    /// What stands in the buffer.
+    pub buffer: Vec<u8>,
     pub limit: Limit,
 }
 
 impl Case {
-    /// A granted access leaves the table as it was, so that it can be asked again at once.
+    /// A granted access, load or dump leaves the table as it was, so that it can be asked again at
+    /// once.
     pub fn repeats(&self) -> bool {
+        self.is_access() || matches!(self.limit, Limit::Text(_))
+    }
+
+    pub fn is_access(&self) -> bool {
         matches!(self.limit, Limit::Load(_) | Limit::Store(_))
     }
 }

@@ -1,8 +1,8 @@
 //! What the proved northbridge costs: time, stack and instructions.
 //!
 //! - [`time`] measures the proved code, the model and the limits side by side, and writes tables;
-//! - [`stack`] measures how much stack the shallowest call, the deepest walk and the deepest drop
-//!   need, which a test holds to [`BOUND`];
+//! - [`stack`] measures how much stack the shallowest call, the deepest walk, the deepest drop, a load
+//!   and a dump need, which a test holds to [`BOUND`];
 //! - [`refused`] gives the refused requests whose instructions `bench/instructions` counts.
 
 mod accesses;
@@ -10,6 +10,7 @@ mod batch;
 mod built;
 mod case;
 mod host;
+mod images;
 mod limit;
 mod operations;
 mod paged;

@@ -13,6 +13,8 @@ pub enum Limit {
     Load(Range<usize>),
     /// A write: the buffer is copied to these bytes of memory.
     Store(Range<usize>),
+    /// A load or a dump: so many bytes of text are copied.
+    Text(usize),
     /// A reset: the table is zeroed.
     ClearTable,
     /// A revoke: these bytes of memory are zeroed, and one entry is hashed.
@@ -27,6 +29,7 @@ impl Limit {
     pub fn name(&self) -> String {
         match self {
             Limit::Load(_) | Limit::Store(_) => "memcpy".into(),
+            Limit::Text(_) => "memcpy of the text".into(),
             Limit::ClearTable => "memset".into(),
             Limit::Renew(_) => "memset + SipHash".into(),
             Limit::Issue(1) => "SipHash".into(),

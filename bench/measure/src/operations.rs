@@ -141,5 +141,5 @@ fn case(
     request: Request,
     limit: Limit,
 ) -> Case {
-    Case { name, of, size, world, request: request.words(), buffer: 0, limit }
+    Case { name, of, size, world, request: request.words(), buffer: Vec::new(), limit }
 }

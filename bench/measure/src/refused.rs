@@ -2,7 +2,8 @@
 //! the segment's bytes. What the tables stand at and what is asked are tried one with the other, and
 //! what the model refuses is kept.
 
-use bridge::{Encoding, Operation, Permissions, Request, Task, Token, Words, ANSWER_BYTES};
+use bridge::{Encoding, Operation, Permissions, Request, Task, Token, Words};
+use bridge::{ANSWER_BYTES, TEXT_BYTES};
 use session::entry::{self, Entry};
 use session::server::{Model, Server};
 use session::World;
@@ -25,7 +26,7 @@ pub struct Refused {
     /// What the table or the state stands at.
     pub standing: &'static str,
     pub request: Words,
-    pub buffer: usize,
+    pub buffer: Vec<u8>,
     pub refusal: u64,
     world: World,
 }
@@ -64,7 +65,7 @@ impl Refused {
         }
         let request = served::request_bytes(&self.request);
         let (mut state, mut answer) = (served::state_bytes(&world.state), [0; ANSWER_BYTES]);
-        let mut buffer = vec![0xa5; self.buffer];
+        let mut buffer = self.buffer.clone();
         let World { table, memory, .. } = &mut world;
         call(&request, &mut state, table, memory, &mut buffer, &mut answer)
     }
@@ -122,33 +123,51 @@ fn fill(entry: Entry) -> Entry {
     entry.with(entry::KIND, 7)
 }
 
-/// What is asked, with the buffer's length.
-fn asked(tokens: &[Token], tasks: &[Task], rest: Token) -> Vec<(Words, usize)> {
+/// A request and what stands in its buffer.
+type Asked = (Words, Vec<u8>);
+
+/// What is asked, with the buffer.
+fn asked(tokens: &[Token], tasks: &[Task], rest: Token) -> Vec<Asked> {
     let pairs = tokens.iter().flat_map(|token| tasks.iter().map(|task| (*token, *task)));
-    let mut asked: Vec<(Words, usize)> =
+    let mut asked: Vec<Asked> =
         pairs.flat_map(|(token, task)| asked_through(token, task, rest)).collect();
-    asked.sort_by_key(|(request, buffer)| (request.in_order(), *buffer));
+    asked.sort_by_key(|(request, buffer)| (request.in_order(), buffer.len(), buffer.clone()));
     asked.dedup();
     asked
 }
 
-fn asked_through(token: Token, task: Task, rest: Token) -> Vec<(Words, usize)> {
-    let mut asked = accesses(token, task);
+fn asked_through(token: Token, task: Task, rest: Token) -> Vec<Asked> {
+    let mut asked = [accesses(token, task), images(token, task)].concat();
     let others = [changes(token, task, rest), strange_changes(token, task)].concat();
-    asked.extend(others.into_iter().map(|words| (words, 0)));
+    asked.extend(others.into_iter().map(|words| (words, Vec::new())));
     asked
 }
 
-fn accesses(token: Token, task: Task) -> Vec<(Words, usize)> {
-    let access = |way, address| Words::access(way, address, task);
+fn accesses(token: Token, task: Task) -> Vec<Asked> {
+    let access = |way, address, length| (Words::access(way, address, task), vec![0xa5; length]);
     let behind = Token(token.0 + LENGTH as u64);
     vec![
-        (access(Operation::Read, token), 64),
-        (access(Operation::Read, token), 0),
-        (access(Operation::Read, token), 4_097),
-        (access(Operation::Read, behind), 1),
-        (access(Operation::Write, token), 64),
-        (access(Operation::Fetch, token), 64),
+        access(Operation::Read, token, 64),
+        access(Operation::Read, token, 0),
+        access(Operation::Read, token, 4_097),
+        access(Operation::Read, behind, 1),
+        access(Operation::Write, token, 64),
+        access(Operation::Fetch, token, 64),
+    ]
+}
+
+/// Loads of right and wrong text, and dumps to a short and to a long buffer.
+fn images(token: Token, task: Task) -> Vec<Asked> {
+    let load = |text: &[u8]| (Words::access(Operation::Load, token, task), text.to_vec());
+    let dump = |length| (Words::access(Operation::Dump, token, task), vec![0xa5; length]);
+    vec![
+        load(b":0100000005FA\n:00000001FF\n"),
+        load(b":02FFFE000506F6\n:00000001FF\n"),
+        load(b":0100000005FA\n"),
+        load(b":0100000005FB\n:00000001FF\n"),
+        load(&[b'\n'; TEXT_BYTES + 1]),
+        dump(64),
+        dump(12_000),
     ]
 }
 
@@ -184,22 +203,22 @@ fn strange_changes(token: Token, task: Task) -> Vec<Words> {
         Words { length: 1 << 40, ..create },
         Words { second: u64::MAX, ..derive },
         Words { encoding: 4, ..revoke },
-        Words { operation: 13, token: token.0, ..Words::default() },
+        Words { operation: 99, token: token.0, ..Words::default() },
     ]
 }
 
 /// Those of the requests that are refused there.
-fn refused_in(standing: &'static str, world: &World, asked: &[(Words, usize)]) -> Vec<Refused> {
-    let kept = |(request, buffer): &(Words, usize)| {
-        let (request, buffer, world) = (*request, *buffer, world.clone());
-        let refusal = refusal_of_model(&world, &request, buffer);
+fn refused_in(standing: &'static str, world: &World, asked: &[Asked]) -> Vec<Refused> {
+    let kept = |(request, buffer): &Asked| {
+        let (request, buffer, world) = (*request, buffer.clone(), world.clone());
+        let refusal = refusal_of_model(&world, &request, &buffer);
         (refusal != 0).then_some(Refused { standing, request, buffer, refusal, world })
     };
     asked.iter().filter_map(kept).collect()
 }
 
-fn refusal_of_model(world: &World, request: &Words, buffer: usize) -> u64 {
-    let reply = Model.serve(request, &mut world.clone(), &mut vec![0xa5; buffer]);
+fn refusal_of_model(world: &World, request: &Words, buffer: &[u8]) -> u64 {
+    let reply = Model.serve(request, &mut world.clone(), &mut buffer.to_vec());
     reply.expect("the model always answers").refusal
 }
 

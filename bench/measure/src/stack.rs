@@ -11,6 +11,7 @@ use bridge::{ANSWER_BYTES, REQUEST_BYTES, STATE_BYTES};
 use session::World;
 
 use crate::built::Built;
+use crate::images;
 use crate::served::{self, Call};
 use crate::thread::Stack;
 
@@ -20,6 +21,9 @@ pub const DEEPEST: usize = 1_023;
 /// No call may need more stack than this, however long the line is: a drop that climbs nests a few
 /// calls of itself at most.
 pub const BOUND: usize = 2_048;
+
+/// How many bytes are loaded and dumped.
+const IMAGE: usize = 23_000;
 
 /// The stack to measure on, well above the bound.
 const SIZE: usize = 4 << 20;
@@ -35,6 +39,9 @@ pub struct Figures {
     pub walk: usize,
     /// A drop that climbs 1,023 links and frees each entry below the owner.
     pub drop: usize,
+    /// A load and a dump of nearly the longest text.
+    pub load: usize,
+    pub dump: usize,
 }
 
 impl fmt::Display for Figures {
@@ -43,6 +50,8 @@ impl fmt::Display for Figures {
         writeln!(out, "  {:>7}  shallowest call, refused at once", self.shallowest)?;
         writeln!(out, "  {:>7}  deepest walk, a read through {DEEPEST} links", self.walk)?;
         writeln!(out, "  {:>7}  deepest drop, a climb of {DEEPEST} links", self.drop)?;
+        writeln!(out, "  {:>7}  a load of {IMAGE} bytes", self.load)?;
+        writeln!(out, "  {:>7}  a dump of {IMAGE} bytes", self.dump)?;
         writeln!(out, "  {BOUND:>7}  the bound that a test holds them to")?;
         write!(out, "A call that does nothing shows {}; less cannot be told apart.", self.floor)
     }
@@ -57,11 +66,18 @@ pub fn stack() -> io::Result<Figures> {
     let read = Words::access(Operation::Read, token, Task::NONE);
     let (bare, bare_token) = deepest_bare();
     let drop = Request::Drop { token: bare_token }.words();
+    let (load, dump) = (images::load(IMAGE), images::dump(IMAGE));
+    let byte = &[0];
+    let mut used = |call, world: &World, request, buffer: &[u8], refusal| {
+        used(&mut stack, Job::new(call, world, &request, buffer), refusal)
+    };
     Ok(Figures {
-        floor: used(&mut stack, served::nothing, &start, unknown, 0)?,
-        shallowest: used(&mut stack, served::proved, &start, unknown, 1)?,
-        walk: used(&mut stack, served::proved, &deep, read, 0)?,
-        drop: used(&mut stack, served::proved, &bare, drop, 0)?,
+        floor: used(served::nothing, &start, unknown, byte, 0)?,
+        shallowest: used(served::proved, &start, unknown, byte, 1)?,
+        walk: used(served::proved, &deep, read, byte, 0)?,
+        drop: used(served::proved, &bare, drop, byte, 0)?,
+        load: used(served::proved, &load.world, load.request, &load.buffer, 0)?,
+        dump: used(served::proved, &dump.world, dump.request, &dump.buffer, 0)?,
     })
 }
 
@@ -83,29 +99,28 @@ struct Job {
     request: [u8; REQUEST_BYTES],
     state: [u8; STATE_BYTES],
     world: World,
-    buffer: [u8; 1],
+    buffer: Vec<u8>,
     answer: [u8; ANSWER_BYTES],
     /// An address in the caller's frame.
     frame: usize,
 }
 
+impl Job {
+    fn new(call: Call, world: &World, request: &Words, buffer: &[u8]) -> Job {
+        Job {
+            call,
+            request: served::request_bytes(request),
+            state: served::state_bytes(&world.state),
+            world: world.clone(),
+            buffer: buffer.to_vec(),
+            answer: [0; ANSWER_BYTES],
+            frame: 0,
+        }
+    }
+}
+
 /// The bytes of stack below the caller's frame that one call uses. Its refusal must be the given one.
-fn used(
-    stack: &mut Stack,
-    call: Call,
-    world: &World,
-    request: Words,
-    refusal: u8,
-) -> io::Result<usize> {
-    let mut job = Job {
-        call,
-        request: served::request_bytes(&request),
-        state: served::state_bytes(&world.state),
-        world: world.clone(),
-        buffer: [0],
-        answer: [0; ANSWER_BYTES],
-        frame: 0,
-    };
+fn used(stack: &mut Stack, mut job: Job, refusal: u8) -> io::Result<usize> {
     let lowest = stack.run(routine, &mut job)?;
     if job.answer[0] != refusal {
         return Err(io::Error::other(format!("refusal {}, not {refusal}", job.answer[0])));

@@ -23,6 +23,7 @@ const COLUMNS: [&str; 9] = [
     "proved/limit",
 ];
 const GROWTH: [&str; 4] = ["growth", "for each", "proved ns", "model ns"];
+const SPEED: [&str; 6] = ["operation", "of", "MB of", "proved /s", "model /s", "limit /s"];
 const AIM: [&str; 3] = ["operation", "of", "proved/(memcpy + checks)"];
 
 #[derive(Clone, Copy, Debug)]
@@ -46,6 +47,7 @@ pub fn time(
     let clock = clock();
     writeln!(out, "{}\n", host::about(options.rounds, clock))?;
     let mut growth = Table::new("How cost grows, from each part's first row to its last", &GROWTH);
+    let mut speeds = Table::new("Million bytes a second", &SPEED);
     let mut aims = Table::new("4,096 bytes against memcpy and checks (the access of 1 byte)", &AIM);
     let parts = parts();
     for (done, part) in parts.iter().enumerate() {
@@ -53,10 +55,12 @@ pub fn time(
         let measured = measured(part, options.rounds, clock)?;
         writeln!(out, "{}", table(part.title, &measured).show(options.form))?;
         growth.rows.extend(grown(part, &measured));
+        speeds.rows.extend(measured.iter().flatten().filter_map(speed));
         aims.rows.extend(measured.iter().filter_map(|set| aim(set)));
     }
     progress(parts.len(), parts.len());
     writeln!(out, "{}", growth.show(options.form))?;
+    writeln!(out, "{}", speeds.show(options.form))?;
     writeln!(out, "{}", aims.show(options.form))
 }
 
@@ -106,11 +110,26 @@ fn grown(part: &Part, measured: &[Vec<Measured>]) -> Option<Vec<String>> {
     Some(vec![last.case.name.into(), unit.into(), proved, model])
 }
 
+/// How many bytes of text go through in a second, of a load or a dump.
+fn speed(measured: &Measured) -> Option<Vec<String>> {
+    let Case { name, of, limit, .. } = &measured.case;
+    let Limit::Text(bytes) = limit else { return None };
+    let speed = |subject| {
+        let second = measured.nanoseconds(subject).median / 1e9;
+        format!("{:.0}", *bytes as f64 / second / 1e6)
+    };
+    let subjects = [Subject::Proved, Subject::Model, Subject::Limit].map(speed);
+    let row = [name.to_string(), of.clone(), "text".to_string()];
+    Some(row.into_iter().chain(subjects).collect())
+}
+
 /// The aim's row of a set of accesses: the last, of 4,096 bytes, and the first, of 1 byte.
 fn aim(set: &[Measured]) -> Option<Vec<String>> {
     let (one, most) = (set.first()?, set.last()?);
     let Case { name, of, .. } = &most.case;
-    most.case.repeats().then(|| vec![name.to_string(), of.clone(), spread(most.ratio_beside(one))])
+    most.case
+        .is_access()
+        .then(|| vec![name.to_string(), of.clone(), spread(most.ratio_beside(one))])
 }
 
 /// With a digit behind the point where that tells anything.

@@ -3,9 +3,10 @@
 use measure::{stack, BOUND};
 
 #[test]
-fn the_deepest_walk_and_the_deepest_drop_stay_within_the_bound() {
+fn the_deepest_calls_stay_within_the_bound() {
     let figures = stack().expect("a thread on a stack of our own");
     assert!(figures.shallowest < figures.walk, "{figures}");
-    assert!(figures.walk <= BOUND, "{figures}");
-    assert!(figures.drop <= BOUND, "{figures}");
+    for most in [figures.walk, figures.drop, figures.load, figures.dump] {
+        assert!(most <= BOUND, "{figures}");
+    }
 }

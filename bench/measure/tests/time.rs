@@ -29,6 +29,14 @@ fn every_operation_and_every_access_has_a_row() {
     for name in operations {
         assert!(text.lines().any(|line| line.starts_with(name)), "{name}");
     }
+    for way in ["load", "dump"] {
+        for bytes in [16, 4_096, 23_000] {
+            let row =
+                |line: &str| line.starts_with(way) && line.contains(&format!(" {bytes} bytes "));
+            // Its time, and its bytes a second.
+            assert_eq!(text.lines().filter(|line| row(line)).count(), 2, "{way} {bytes}");
+        }
+    }
     for way in ["read", "write", "fetch"] {
         for bytes in [1, 12, 64, 512, 4_096] {
             for depth in [0, 1, 8, 64] {

@@ -3,6 +3,7 @@
 
 use std::ops::Range;
 
+use crate::entry::Entry;
 use crate::interface::{Answer, Request};
 use crate::machine::Machine;
 use crate::permissions::lie_within;
@@ -10,16 +11,23 @@ use crate::refusal::{need, Refusal};
 use crate::token::Token;
 
 impl Machine<'_> {
+    /// The named entry, through places 2 to 5 and 7.
+    #[inline(always)]
+    pub fn opened(&self, request: &Request, right: u8) -> Result<Entry, Refusal> {
+        let (named, _) = self.table.line_for(request.token, request.task)?;
+        need(lie_within(right, named.entry.permissions), Refusal::Right)?;
+        Ok(named.entry)
+    }
+
     /// The bytes of memory that an access reaches.
     #[inline]
     fn reach(&self, request: &Request, right: u8, length: usize) -> Result<Range<usize>, Refusal> {
-        let (named, _) = self.table.line_for(request.token, request.task)?;
-        need(lie_within(right, named.entry.permissions), Refusal::Right)?;
+        let named = self.opened(request, right)?;
         // An offset is below 2^32 and the length at most 4,096.
         let offset = Token::unpack(request.token).offset;
         let end = offset + length as u64;
-        need(end <= u64::from(named.entry.length), Refusal::Bounds)?;
-        let start = (u64::from(named.entry.base) + offset) as usize;
+        need(end <= u64::from(named.length), Refusal::Bounds)?;
+        let start = (u64::from(named.base) + offset) as usize;
         Ok(start..start + length)
     }
 

@@ -1,6 +1,7 @@
 //! Place 1: the request itself. Each request is judged by the words that it
 //! uses, and by no others.
 
+use crate::hex::TEXT_LIMIT;
 use crate::interface::{Request, State};
 use crate::operation;
 use crate::refusal::{need, Refusal};
@@ -52,6 +53,9 @@ pub fn words(request: &Request, buffer: usize) -> Result<(), Refusal> {
         operation::CLONE | operation::DROP => plain(request.token),
         // "lock or unlock with task 0 (task 0 means none)"
         operation::LOCK | operation::UNLOCK => plain(request.token) && task && request.task != 0,
+        // 02, paper 2: "at most 65,536 bytes of text, else 1".
+        operation::LOAD => plain(request.token) && task && buffer <= TEXT_LIMIT,
+        operation::DUMP => plain(request.token) && task,
         _ => false,
     };
     need(sound, Refusal::Request)

@@ -37,9 +37,12 @@ pub struct Answer {
     pub second: u64,
     /// Drop's number.
     pub dropped: u64,
+    /// 02, paper 2: "an answer that may be shorter than its buffer also tells
+    /// its length in bytes". The length of a granted dump's text, else 0.
+    pub length: u64,
 }
 
 impl Answer {
     pub(crate) const GRANTED: Answer =
-        Answer { refusal: 0, place: 0, first: 0, second: 0, dropped: 0 };
+        Answer { refusal: 0, place: 0, first: 0, second: 0, dropped: 0, length: 0 };
 }

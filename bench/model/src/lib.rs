@@ -10,6 +10,8 @@
 mod access;
 mod check;
 mod entry;
+mod hex;
+mod image;
 mod interface;
 mod lock;
 mod machine;
@@ -72,6 +74,8 @@ fn run(
         operation::LOCK => machine.lock(request),
         operation::UNLOCK => machine.unlock(request),
         operation::REVOKE => machine.revoke(request),
+        operation::LOAD => machine.load(request, buffer),
+        operation::DUMP => machine.dump(request, buffer),
         _ => Err(Refusal::Request),
     }
 }

@@ -13,3 +13,5 @@ pub const DROP: u64 = 9;
 pub const LOCK: u64 = 10;
 pub const UNLOCK: u64 = 11;
 pub const REVOKE: u64 = 12;
+pub const LOAD: u64 = 13;
+pub const DUMP: u64 = 14;

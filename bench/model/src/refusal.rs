@@ -1,4 +1,4 @@
-//! The rows of "Where a request stops".
+//! The rows of "Where a request stops", and those that 02 adds.
 
 use crate::interface::Answer;
 
@@ -15,6 +15,9 @@ pub enum Refusal {
     Standing,
     Numbers,
     Nonces,
+    Malformed,
+    Checksum,
+    Room,
 }
 
 /// "for 3 and 4 whether the named entry or an ancestor was the bad one"
@@ -38,6 +41,9 @@ impl Refusal {
             Refusal::Standing => 9,
             Refusal::Numbers => 10,
             Refusal::Nonces => 11,
+            Refusal::Malformed => 12,
+            Refusal::Checksum => 13,
+            Refusal::Room => 14,
         }
     }
 

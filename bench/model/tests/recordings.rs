@@ -24,7 +24,7 @@ fn bytes(term: &Term) -> Vec<u8> {
 
 /// The table of these entries, each a number of 32 bytes, the top byte first.
 fn table(term: &Term, definitions: &Definitions) -> Vec<u8> {
-    let entries = definitions.get(term.word()).unwrap_or(term).list();
+    let entries = named(term, definitions).list();
     entries.iter().flat_map(|entry| entry.wide()).collect()
 }
 
@@ -34,11 +34,16 @@ fn state(term: &Term) -> State {
     State { key0, key1, last, next }
 }
 
+/// What a word names, or the term itself.
+fn named<'a>(term: &'a Term, definitions: &'a Definitions) -> &'a Term {
+    definitions.get(term.word()).unwrap_or(term)
+}
+
 /// A request with the buffer that it brings.
-fn call(term: &Term) -> (Request, Vec<u8>) {
+fn call(term: &Term, definitions: &Definitions) -> (Request, Vec<u8>) {
     match term.call() {
         ("plain", [asked]) => (request(asked), Vec::new()),
-        ("over", [buffer, asked]) => (request(asked), bytes(buffer)),
+        ("over", [buffer, asked]) => (request(asked), bytes(named(buffer, definitions))),
         _ => panic!("no call: {term:?}"),
     }
 }
@@ -78,6 +83,8 @@ fn request(term: &Term) -> Request {
         "lock" => Request { operation: LOCK, task: n[1], ..empty },
         "unlock" => Request { operation: UNLOCK, task: n[1], ..empty },
         "revoke" => Request { operation: REVOKE, encoding: n[1], ..empty },
+        "load" => Request { operation: LOAD, task: n[1], ..empty },
+        "dump" => Request { operation: DUMP, task: n[1], ..empty },
         _ => panic!("no request: {term:?}"),
     }
 }
@@ -110,6 +117,10 @@ fn told(row: &Term) -> Told<'_> {
             answer.dropped = dropped.number();
             Told { call, answer, last: last.number(), next: next.number(), effect: effect.call() }
         }
+        ("dumps", [call, length, last, next, effect]) => {
+            answer.length = length.number();
+            Told { call, answer, last: last.number(), next: next.number(), effect: effect.call() }
+        }
         ("refuses", [call, refusal, place, last, next]) => {
             (answer.refusal, answer.place) = (refusal.number(), place.number());
             Told {
@@ -128,7 +139,7 @@ fn told(row: &Term) -> Told<'_> {
 fn carried(effect: (&str, &[Term]), memory: &mut [u8], buffer: &mut [u8]) {
     match effect {
         ("nothing", []) => {}
-        ("load", [start, length]) => {
+        ("fetch", [start, length]) => {
             let start = start.number() as usize;
             buffer.copy_from_slice(&memory[start..start + length.number() as usize]);
         }
@@ -136,8 +147,27 @@ fn carried(effect: (&str, &[Term]), memory: &mut [u8], buffer: &mut [u8]) {
             let (start, stored) = (start.number() as usize, bytes(stored));
             memory[start..start + stored.len()].copy_from_slice(&stored);
         }
+        ("text", [start, length]) => {
+            let start = start.number() as usize;
+            let text = text(&memory[start..start + length.number() as usize]);
+            buffer[..text.len()].copy_from_slice(&text);
+        }
         _ => panic!("no effect: {effect:?}"),
     }
+}
+
+/// The text of a few bytes, of which each record has at most 16.
+fn text(bytes: &[u8]) -> Vec<u8> {
+    let mut text = b":020000040000FA\n".to_vec();
+    for (at, part) in (0..).step_by(16).zip(bytes.chunks(16)) {
+        let fields = [&[part.len() as u8, 0, at, 0][..], part].concat();
+        let sum = fields.iter().fold(0, |sum: u8, byte| sum.wrapping_sub(*byte));
+        let digits: Vec<String> =
+            fields.iter().chain([&sum]).map(|byte| format!("{byte:02X}")).collect();
+        text.extend(format!(":{}\n", digits.concat()).bytes());
+    }
+    text.extend(b":00000001FF\n");
+    text
 }
 
 /// Serves a session and counts its rows. Each row finds bytes in memory that differ from each other.
@@ -148,7 +178,7 @@ fn replay(session: &Term, definitions: &Definitions) -> usize {
     let rows = session.field("rows").list();
     for row in rows {
         let expected = told(row);
-        let (asked, mut buffer) = call(expected.call);
+        let (asked, mut buffer) = call(expected.call, definitions);
         let mut memory: Vec<u8> = (1..=long).collect();
         let (mut left, mut back) = (memory.clone(), buffer.clone());
         carried(expected.effect, &mut left, &mut back);
@@ -166,7 +196,7 @@ fn sessions_are_served_as_recorded() {
     let sessions = definitions["sessions"].list();
     let rows: usize =
         sessions.iter().map(|name| replay(&definitions[name.word()], &definitions)).sum();
-    assert_eq!((sessions.len(), rows), (6, 174));
+    assert_eq!((sessions.len(), rows), (7, 215));
 }
 
 #[test]
@@ -180,11 +210,11 @@ fn limits_are_those_recorded() {
         let mut at = State { last: last.number(), next: next.number(), ..State::default() };
         let (mut memory, mut entries) =
             (vec![0; memory.number() as usize], vec![0; entries.number() as usize]);
-        let (asked, mut buffer) = call(asked);
+        let (asked, mut buffer) = call(asked, &definitions);
         let answer = serve(asked, &mut at, &mut entries, &mut memory, &mut buffer);
         assert_eq!(answer.refusal, refusal.number(), "{row:?}");
     }
-    assert_eq!(rows.len(), 30);
+    assert_eq!(rows.len(), 34);
 }
 
 #[test]
@@ -197,11 +227,11 @@ fn bytes_move_as_recorded() {
         };
         let (mut at, mut entries) = (state(from), table(entries, &definitions));
         let (mut memory, mut back) = (bytes(memory), Vec::new());
-        for (asked, mut buffer) in calls.list().iter().map(call) {
+        for (asked, mut buffer) in calls.list().iter().map(|term| call(term, &definitions)) {
             serve(asked, &mut at, &mut entries, &mut memory, &mut buffer);
             back.extend(buffer);
         }
         assert_eq!((back, memory), (bytes(buffers), bytes(left)), "{row:?}");
     }
-    assert_eq!(rows.len(), 2);
+    assert_eq!(rows.len(), 3);
 }

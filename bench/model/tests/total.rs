@@ -1,7 +1,7 @@
 //! Anything may be handed over, and an answer comes back.
 
 mod common;
-use common::{Dice, Rig, SPENT};
+use common::{record, Dice, Rig, SPENT};
 use model::operation::*;
 use model::Request;
 
@@ -16,7 +16,7 @@ fn any_request(dice: &mut Dice, tokens: &[u64]) -> Request {
         1 => u64::MAX - dice.below(3),
         _ => dice.below(end),
     };
-    let operation = if dice.below(50) == 0 { dice.below(20) } else { 1 + dice.below(12) };
+    let operation = if dice.below(50) == 0 { dice.below(20) } else { 1 + dice.below(14) };
     let (one, other) = (token(dice), token(dice));
     Request {
         operation,
@@ -32,6 +32,33 @@ fn any_request(dice: &mut Dice, tokens: &[u64]) -> Request {
         },
         encoding: if dice.below(30) == 0 { dice.below(8) } else { dice.below(4) },
     }
+}
+
+/// The buffer that comes with a request: for a load mostly a text.
+fn any_buffer(dice: &mut Dice, request: &Request, small: u64) -> Vec<u8> {
+    match request.operation {
+        LOAD if dice.below(8) != 0 => any_text(dice),
+        DUMP => vec![dice.word() as u8; dice.below(400) as usize],
+        _ => vec![dice.word() as u8; dice.below(small) as usize],
+    }
+}
+
+/// A text of small records, one in three with a character changed.
+fn any_text(dice: &mut Dice) -> Vec<u8> {
+    let mut text = Vec::new();
+    for _ in 0..dice.below(4) {
+        let data = vec![dice.word() as u8; dice.below(6) as usize];
+        text.extend(match dice.below(8) {
+            0 => record(4, 0, &[0, dice.below(2) as u8]),
+            _ => record(0, dice.below(40) as u16, &data),
+        });
+    }
+    text.extend(record(1, 0, &[]));
+    if dice.below(3) == 0 {
+        let at = dice.below(text.len() as u64) as usize;
+        text[at] = dice.one_of(b"0123456789ABCDEFabcdef:\n\r".map(u64::from).as_slice()) as u8;
+    }
+    text
 }
 
 /// From reset on: "the lengths of all direct entries add up to the memory's
@@ -62,8 +89,8 @@ fn neighbour(rig: &Rig, token: u64) -> u64 {
 #[test]
 fn lists_from_reset() {
     let mut dice = Dice(7);
-    let mut seen = [0u64; 12];
-    let mut granted = [0u64; 13];
+    let mut seen = [0u64; 15];
+    let mut granted = [0u64; 15];
     for round in 0..60 {
         let (memory, entries) = (1 + dice.below(96) as usize, 2 + dice.below(9) as usize);
         let mut rig = Rig::bare(memory, entries);
@@ -85,7 +112,7 @@ fn lists_from_reset() {
             if request.operation == RESET {
                 request.operation = DROP;
             }
-            let mut buffer = vec![dice.word() as u8; dice.below(12) as usize];
+            let mut buffer = any_buffer(&mut dice, &request, 12);
             let answer = rig.ask_with(request, &mut buffer);
             seen[answer.refusal as usize] += 1;
             if answer.refusal == 0 {
@@ -99,7 +126,7 @@ fn lists_from_reset() {
     }
     // Ill-formed entries are not reached from reset; all else is.
     assert_eq!(seen[3], 0);
-    for refusal in (0..12).filter(|&refusal| refusal != 3) {
+    for refusal in (0..15).filter(|&refusal| refusal != 3) {
         assert!(seen[refusal] > 0, "{refusal}: {seen:?}");
     }
     assert!(granted[1..].iter().all(|&times| times > 0), "{granted:?}");
@@ -108,7 +135,7 @@ fn lists_from_reset() {
 #[test]
 fn tables_and_states_that_nobody_reached() {
     let mut dice = Dice(8);
-    let mut seen = [0u64; 12];
+    let mut seen = [0u64; 15];
     for _ in 0..10_000 {
         let entries = dice.below(6) as usize;
         let mut rig = Rig::bare(dice.below(40) as usize, entries);
@@ -149,7 +176,7 @@ fn tables_and_states_that_nobody_reached() {
         let tokens: Vec<u64> = (0..10).map(|n| (n & 1) << 46 | (n >> 1) << 32).collect();
         for _ in 0..4 {
             let request = any_request(&mut dice, &tokens);
-            let mut buffer = vec![0; dice.below(6) as usize];
+            let mut buffer = any_buffer(&mut dice, &request, 6);
             let answer = rig.ask_with(request, &mut buffer);
             seen[answer.refusal as usize] += 1;
         }
@@ -173,7 +200,7 @@ fn noise() {
             _ => dice.word(),
         };
         let request = Request {
-            operation: dice.below(14),
+            operation: dice.below(17),
             token: word(&mut dice),
             second: word(&mut dice),
             task: word(&mut dice),

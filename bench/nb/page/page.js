@@ -84,19 +84,26 @@ function stopLine(stop, rows) {
   return line;
 }
 
-// 01's table of checks: how far the request came.
+// The table of checks: how far the request came. Its own checks stand in their order.
 function showChecks(step) {
-  const checks = step.request === undefined ? [] : session.checks;
+  const checks = step.request === undefined ? [] : ordered(session.checks, step.checks);
   const items = checks.map(([number, words]) => {
     return make("li", stateOf(number, step), make("b", "", String(number)), words);
   });
   byId("checks").replaceChildren(...items);
 }
 
+// Those of a request that are not by rising numbers stand first.
+function ordered(checks, own) {
+  if (own.every((number, at) => at === 0 || own[at - 1] < number)) return checks;
+  const used = own.map((number) => checks.find((check) => check[0] === number));
+  return [...used, ...checks.filter((check) => !own.includes(check[0]))];
+}
+
 function stateOf(number, step) {
   if (!step.checks.includes(number)) return "unused";
   if (step.refusal === number) return "stopped";
-  const passed = step.refusal === 0 || (step.checks.includes(step.refusal) && number < step.refusal);
+  const passed = step.refusal === 0 || step.checks.indexOf(number) < step.checks.indexOf(step.refusal);
   return passed ? "passed" : "open";
 }
 

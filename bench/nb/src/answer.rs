@@ -1,9 +1,10 @@
 //! An answer in words, on one line.
 
 use crate::cause::{causes, Lent};
-use bridge::{refusal_words, Buffer, Check, Operation, Place, Reply};
+use crate::note::note;
+use bridge::{refusal_words, Check, Operation, Place, Reply};
 use session::play::Played;
-use session::text::{bytes_text, token_text, Ask};
+use session::text::{buffer_text as bytes_text, token_text, Ask};
 use session::World;
 
 /// A buffer is shown up to this length.
@@ -20,15 +21,17 @@ pub fn answer_text(ask: &Ask, played: &Played) -> String {
     parts.extend(token_part("first", names[0], reply.first));
     parts.extend(token_part("second", names[1], reply.second));
     parts.extend(number_text(played.request.operation, reply));
+    parts.extend(length_text(played.request.operation, reply));
     parts.extend(buffer_text(ask, played));
     parts.join(", ")
 }
 
-/// What the refusal's number means; of a bad request also why it is bad, as far as the tool sees it.
+/// What the refusal's number means; of a bad request, or bad text, also why it is bad, as far as the
+/// tool sees it.
 fn refusal_text(played: &Played) -> String {
     let words = refusal_words(played.reply.refusal);
     if played.reply.refusal != Check::Request as u64 {
-        return words.to_string();
+        return note(played).map_or(words.to_string(), |note| format!("{words}: {note}"));
     }
     let World { state, table, memory } = &played.before;
     let (state, table, memory) = (*state, table.len(), memory.len());
@@ -62,13 +65,19 @@ fn number_text(operation: u64, reply: &Reply) -> Option<String> {
         .then(|| format!("number {}", reply.dropped))
 }
 
+/// The length of a text that was written, or one that should not be there.
+fn length_text(operation: u64, reply: &Reply) -> Option<String> {
+    let answers = Operation::of(operation).is_some_and(Operation::answers_length);
+    (answers && reply.refusal == 0 || reply.length != 0).then(|| format!("length {}", reply.length))
+}
+
 /// What the buffer was filled with, if it is short.
 fn buffer_text(ask: &Ask, played: &Played) -> Option<String> {
     let operation = Operation::of(played.request.operation);
-    let filled = operation.is_some_and(|operation| operation.buffer() == Buffer::Filled);
+    let filled = operation.is_some_and(|operation| operation.buffer().is_written());
     let given = filled && played.reply.refusal == 0 || played.buffer != ask.buffer;
     let text = match played.buffer.len() {
-        0..=SHORT => format!("buffer {}", bytes_text(&played.buffer)),
+        0..=SHORT => format!("buffer {}", bytes_text(played.request.operation, &played.buffer)),
         length => format!("buffer of {length} bytes"),
     };
     given.then_some(text)

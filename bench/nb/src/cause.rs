@@ -10,7 +10,6 @@ const MEMORY: usize = 1 << 24;
 const ENTRIES: std::ops::RangeInclusive<usize> = 2..=1_024;
 const SPENT: u64 = 1 << 32;
 const TASKS: u64 = 1 << 55;
-const ACCESS: usize = 4_096;
 
 /// What is lent with a request, as far as place 1 looks at it: the state, and lengths in bytes.
 #[derive(Clone, Copy, Debug)]
@@ -31,8 +30,9 @@ pub fn causes(request: &Words, lent: &Lent) -> Vec<String> {
     if operation != Operation::Reset {
         causes.extend(of_state(lent));
     }
+    causes.extend(of_buffer(operation, lent.buffer));
     let arguments = operation.arguments().iter();
-    causes.extend(arguments.filter_map(|argument| of_argument(*argument, request, lent)));
+    causes.extend(arguments.filter_map(|argument| of_argument(*argument, request)));
     causes
 }
 
@@ -69,10 +69,9 @@ fn of_state(lent: &Lent) -> Vec<String> {
     ])
 }
 
-fn of_argument(argument: Argument, request: &Words, lent: &Lent) -> Option<String> {
+fn of_argument(argument: Argument, request: &Words) -> Option<String> {
     let Words { token, second, task, length, permissions, encoding, .. } = *request;
     match argument {
-        Argument::Address => of_buffer(lent.buffer),
         Argument::Token => of_offset("the token", token),
         Argument::SecondToken => of_offset("the second token", second),
         Argument::Holder if task == 0 => Some("the task is 0, which means none".to_string()),
@@ -86,15 +85,16 @@ fn of_argument(argument: Argument, request: &Words, lent: &Lent) -> Option<Strin
             (permissions > 7).then(|| format!("the permissions {permissions} are above 7"))
         }
         Argument::Encoding => (encoding > 3).then(|| format!("the encoding {encoding} is above 3")),
-        Argument::Key | Argument::Offset | Argument::User => None,
+        Argument::Address | Argument::Key | Argument::Offset | Argument::User => None,
     }
 }
 
-fn of_buffer(length: usize) -> Option<String> {
+fn of_buffer(operation: Operation, length: usize) -> Option<String> {
+    let lengths = operation.buffer().lengths();
     match length {
+        _ if lengths.contains(&length) => None,
         0 => Some("the buffer is empty".to_string()),
-        1..=ACCESS => None,
-        _ => Some(format!("the buffer has {length} bytes, of at most {ACCESS}")),
+        _ => Some(format!("the buffer has {length} bytes, of at most {}", lengths.end())),
     }
 }
 

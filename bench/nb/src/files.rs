@@ -12,15 +12,18 @@ pub const LONGEST: u64 = 1 << 26;
 /// Reads a session file; an error tells the line, the column and what was expected. `-` is the
 /// standard input.
 pub fn read(file: &str) -> Result<Script, Failure> {
+    let bytes = bytes_of(file, "a session file")?;
+    let text = text(bytes).map_err(|why| Failure::Input(format!("{file}: {why}")))?;
+    parse(&text).map_err(|error| Failure::Input(format!("{file}: {error}")))
+}
+
+/// The bytes of a file of some kind, or one more than it may have. `-` is the standard input.
+pub fn bytes_of(file: &str, kind: &str) -> Result<Vec<u8>, Failure> {
     let bytes = match file {
         "-" => bytes(io::stdin().lock()),
         _ => File::open(file).and_then(bytes),
     };
-    let bytes = bytes.map_err(|error| {
-        Failure::Input(format!("expected a session file, cannot read {file}: {error}"))
-    })?;
-    let text = text(bytes).map_err(|why| Failure::Input(format!("{file}: {why}")))?;
-    parse(&text).map_err(|error| Failure::Input(format!("{file}: {error}")))
+    bytes.map_err(|error| Failure::Input(format!("expected {kind}, cannot read {file}: {error}")))
 }
 
 /// All bytes, or one more than a file may have.

@@ -2,11 +2,14 @@
 
 pub mod answer;
 pub mod arguments;
+pub mod behind;
 pub mod cause;
 pub mod command;
 pub mod commands;
 pub mod files;
+pub mod hex;
 pub mod map;
+pub mod note;
 pub mod outcome;
 pub mod page;
 pub mod report;

@@ -32,7 +32,7 @@ impl Sum {
     pub fn count(&mut self, ask: &Ask, played: &Result<Played, NoAnswer>) -> bool {
         let as_expected = match played {
             Ok(played) => played.differences.is_empty(),
-            Err(NoAnswer::TooLong { .. }) if is_access(ask) => {
+            Err(NoAnswer::TooLong { .. }) if is_refused(ask) => {
                 self.unasked += 1;
                 return true;
             }
@@ -45,9 +45,11 @@ impl Sum {
     }
 }
 
-/// An access with so long a buffer is refused, and so changes nothing for those behind it.
-fn is_access(ask: &Ask) -> bool {
-    Operation::of(ask.words.operation).is_some_and(Operation::is_access)
+/// An access or a load with so long a buffer is refused, and so changes nothing for those behind it.
+fn is_refused(ask: &Ask) -> bool {
+    let lengths = |operation: Operation| operation.buffer().lengths();
+    Operation::of(ask.words.operation)
+        .is_some_and(|operation| !lengths(operation).contains(&ask.buffer.len()))
 }
 
 pub fn verdict_text(sum: &Sum, style: Style) -> String {
@@ -86,7 +88,7 @@ pub fn write_played(
             writeln!(out, "{line:>5} {} {request:<WIDE$} {answer}", style.wrong(mark))?;
             played.differences.iter().try_for_each(|one| write_difference(one, style, out))
         }
-        Err(no_answer @ NoAnswer::TooLong { .. }) if is_access(ask) => {
+        Err(no_answer @ NoAnswer::TooLong { .. }) if is_refused(ask) => {
             writeln!(out, "{line:>5} - {request:<WIDE$} {no_answer}")
         }
         Err(no_answer) => {

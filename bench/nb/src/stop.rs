@@ -47,7 +47,9 @@ pub fn stop(request: &Words, table: &[u8], memory: usize, refusal: u64) -> Optio
         Check::Bounds => Some(itself(tokens.last()?)),
         Check::Standing if operation == Operation::Merge => table.in_use(&tokens),
         Check::Standing => table.owned(operation == Operation::Unlock, tokens.first()?),
+        // These are about no entry.
         Check::Request | Check::Numbers | Check::Nonces => None,
+        Check::Malformed | Check::Checksum | Check::Room => None,
     }
 }
 

@@ -97,7 +97,13 @@ pub fn all() -> Vec<Stored> {
         "order-derive",
         "order-derive-nonces",
         "order-lock-drop-revoke",
+        "order-load",
         "reset-again",
         "deep-line",
+        "load-image",
+        "load-malformed",
+        "load-pages",
+        "dump-text",
+        "dump-longest",
     ]
 }

@@ -59,12 +59,12 @@ fn without_an_answer_the_rest_of_the_file_is_not_asked() {
 #[test]
 fn a_buffer_that_no_line_holds_is_not_asked() {
     let text =
-        "memory 64 entries 4\nreset nonce 1 -> 0\nread root 8193 -> 1\nread root 8192 -> 1\n";
+        "memory 64 entries 4\nreset nonce 1 -> 0\nread root 69633 -> 1\nread root 69632 -> 1\n";
     let (status, text, _) = replay(&["--against", &format!("'{NB}' serve"), "-"], text);
     assert_eq!(status, 0, "{text}");
-    assert!(text.contains("not asked: its buffer has 8193 bytes, of at most 8192"), "{text}");
+    assert!(text.contains("not asked: its buffer has 69633 bytes, of at most 69632"), "{text}");
     assert!(text.contains("all as expected, 1 more not asked"), "{text}");
-    let other = "memory 64 entries 4\nreset nonce 1 -> 0\nclone root buffer 00*8193 -> 0\n";
+    let other = "memory 64 entries 4\nreset nonce 1 -> 0\nclone root buffer 00*69633 -> 0\n";
     assert_eq!(replay(&["--against", &format!("'{NB}' serve"), "-"], other).0, 1);
 }
 
@@ -75,7 +75,7 @@ fn bad_words_are_status_2() {
         assert_eq!(status, 2, "{words:?}");
         assert!(error.contains(told), "{words:?}: {error}");
     };
-    holds(&["--against", "echo hello", "-"], "expected northbridge 1");
+    holds(&["--against", "echo hello", "-"], "expected northbridge 2");
     holds(&["--against", "./no-such-simulator 2> /dev/null", "-"], "no-such-simulator");
     holds(&["--against", "cat", "--by", "model", "-"], "expected --by or --against");
     holds(&["--against"], "a value behind --against");

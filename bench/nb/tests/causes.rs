@@ -1,16 +1,30 @@
 //! Why a request is bad: told exactly for those that are refused with 1.
 
-use bridge::{Check, Reply, State, Words};
+use std::cell::Cell;
+use std::rc::Rc;
+
+use bridge::{Check, Operation, Reply, State, Words};
 use compare::{compare, Machine, Options, Pair, Proved, Trouble};
 use nb_tool::answer::answer_text;
 use nb_tool::cause::{causes, Lent};
+use nb_tool::hex;
 use session::play::Player;
 use session::server::Proved as Server;
 use session::text::parse;
 use session::World;
 
-/// The proved code; each of its answers is compared with the causes that are found.
-struct Judged(Proved);
+/// The proved code; each of its answers is compared with the causes that are found. Loads whose text
+/// was looked at are counted.
+struct Judged(Proved, Rc<Cell<usize>>);
+
+/// The tool finds a bad line if and only if the text is refused, and for the same reason.
+fn text_is_judged(reply: &Reply, text: &[u8]) {
+    let fault = hex::read(text).err();
+    let refused = [Check::Malformed, Check::Checksum].map(|check| check as u64);
+    let told = Some(reply.refusal).filter(|refusal| refused.contains(refusal));
+    let found = fault.as_ref().map(|fault| fault.check as u64);
+    assert_eq!(found, told, "{fault:?}\n{}", String::from_utf8_lossy(text));
+}
 
 impl Machine for Judged {
     fn name(&self) -> &str {
@@ -28,6 +42,10 @@ impl Machine for Judged {
         let found = causes(request, &lent);
         let bad = reply.refusal == Check::Request as u64;
         assert_eq!(bad, !found.is_empty(), "{request:?} {lent:?}: {reply:?} {found:?}");
+        if request.operation == Operation::Load as u64 && !bad {
+            self.1.set(self.1.get() + 1);
+            text_is_judged(&reply, buffer);
+        }
         Ok(reply)
     }
 
@@ -46,9 +64,12 @@ impl Machine for Judged {
 
 #[test]
 fn a_request_has_a_cause_if_and_only_if_it_is_refused_with_1() {
-    let pair = Pair::new(Box::new(Judged(Proved::new())), Box::new(Proved::new()));
+    let loads = Rc::new(Cell::new(0));
+    let judged = Judged(Proved::new(), loads.clone());
+    let pair = Pair::new(Box::new(judged), Box::new(Proved::new()));
     let options = Options { requests: 300_000, ..Options::default() };
     assert!(compare(&options, pair).expect("a run").found.is_none());
+    assert!(loads.get() > 5_000, "{loads:?}");
 }
 
 /// The answer to the last request of a text.
@@ -70,6 +91,8 @@ fn each_cause_has_its_words() {
     holds("read root 1 task 0x80000000000000", "the task 0x80000000000000 is not below 2^55");
     holds("read root 0", "the buffer is empty");
     holds("write root 00*4097", "the buffer has 4097 bytes, of at most 4096");
+    holds("load root 00*65537", "the buffer has 65537 bytes, of at most 65536");
+    holds("dump root+1 64", "the token has an offset, 1, which only an access may have");
     holds("clone root+5", "the token has an offset, 5, which only an access may have");
     let second = "the second token has an offset, 1, which only an access may have";
     holds("merge root root+1", second);
@@ -77,7 +100,7 @@ fn each_cause_has_its_words() {
     holds("derive root length 1 permissions 8", "the permissions 8 are above 7");
     holds("revoke root encoding 4", "the encoding 4 is above 3");
     holds("reset nonce 0", "the first nonce 0 is not from 1 to 4294967295");
-    holds("operation 13", "there is no operation 13");
+    holds("operation 15", "there is no operation 15");
     let both = "the length is 0; the permissions 9 are above 7";
     holds("derive root length 0 permissions 9", both);
 }

@@ -45,7 +45,7 @@ fn folder(test: &str) -> PathBuf {
 fn help_shows_an_example_for_each_command() {
     let (status, text, _) = run(&["--help"], "");
     assert_eq!(status, 0);
-    for command in ["replay", "compare", "record", "search"] {
+    for command in ["replay", "compare", "record", "search", "load", "dump"] {
         assert!(text.contains(&format!("for example: nb {command}")), "{text}");
         let (status, help, _) = run(&[command, "--help"], "");
         assert_eq!(status, 0);
@@ -88,6 +88,11 @@ fn bad_command_lines_are_status_2() {
     holds(&["record", "there-is-no-such.session"], "there-is-no-such.session");
     holds(&["search", "--keys", "many", "x"], "a number behind --keys");
     holds(&["search", "a", "b"], "one file");
+    holds(&["load", "a", "b"], "a session, a token and a HEX file");
+    holds(&["load", "--to", "x.hex", "a", "b", "c"], "ends in .session");
+    holds(&["dump", "a", "b"], "a session, a token and a HEX file");
+    holds(&["dump", "a", "b", "c.session"], "ends in .hex");
+    holds(&["dump", "there-is-no-such.session", "root", "c.hex"], "there-is-no-such.session");
 }
 
 #[test]
@@ -199,7 +204,7 @@ fn record_makes_a_session_exact() {
 fn the_version_is_told() {
     let (status, text, _) = run(&["--version"], "");
     let version = env!("CARGO_PKG_VERSION");
-    assert_eq!((status, text), (0, format!("nb {version}, line protocol northbridge 1\n")));
+    assert_eq!((status, text), (0, format!("nb {version}, line protocol northbridge 2\n")));
 }
 
 #[test]

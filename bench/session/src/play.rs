@@ -3,8 +3,8 @@
 use crate::entry::Entry;
 use crate::server::{Server, Trouble};
 use crate::text::{
-    changes, print_standing, token_text, Ask, EntryLine, Expected, Names, Script, Standing,
-    Unresolved, Word,
+    buffer_text, changes, print_standing, token_text, Ask, EntryLine, Expected, Names, Script,
+    Standing, Unresolved, Word,
 };
 use crate::token::Token;
 use crate::world::World;
@@ -126,6 +126,7 @@ impl<'a, S: Server + ?Sized> Player<'a, S> {
             ("first token", stated(expected.first), reply.first),
             ("second token", stated(expected.second), reply.second),
             ("number", stated(expected.number), reply.dropped),
+            ("length", stated(expected.length), reply.length),
         ];
         let differs = words
             .into_iter()
@@ -146,10 +147,11 @@ impl<'a, S: Server + ?Sized> Player<'a, S> {
     ) -> Option<Difference> {
         let kept = self.exact.then_some(&ask.buffer);
         let expected = expected.buffer.as_ref().or(kept)?;
+        let text = |bytes: &[u8]| buffer_text(ask.words.operation, bytes);
         (expected != given).then(|| Difference {
             what: "buffer".to_string(),
-            expected: crate::text::bytes_text(expected),
-            given: crate::text::bytes_text(given),
+            expected: text(expected),
+            given: text(given),
         })
     }
 

@@ -97,6 +97,6 @@ pub fn state_of_model(state: &model::State) -> State {
 
 #[inline]
 pub fn reply_of_model(answer: &model::Answer) -> Reply {
-    let model::Answer { refusal, place, first, second, dropped } = *answer;
-    Reply { refusal, place, first, second, dropped }
+    let model::Answer { refusal, place, first, second, dropped, length } = *answer;
+    Reply { refusal, place, first, second, dropped, length }
 }

@@ -120,7 +120,7 @@ fn names_of_tokens_that_are_not_given() {
     for request in ["reset nonce 1", "read root 1", "clone root", "lock root task 1", "drop root"] {
         holds_in(&format!("{request} -> 0 as two"), request.len() + 7, none, "'as'");
     }
-    holds_in("operation 13 -> 0 as two", 19, none, "'as'");
+    holds_in("operation 15 -> 0 as two", 19, none, "'as'");
     let one = "one name, as this request gives one token";
     holds_in("revoke root -> 0 as two three", 25, one, "'three'");
     holds_in("derive root length 1 permissions R -> 0 as - two", 46, one, "'two'");

@@ -33,6 +33,7 @@ fn random_sessions_with_random_replies() {
                 first: dice.some_word(),
                 second: dice.some_word(),
                 dropped: dice.below(2),
+                length: dice.below(2) * dice.some_word(),
             })
             .collect();
         let text = print_with(&session, &replies);

@@ -4,11 +4,11 @@
 //! the standard input, and each is answered by one line on the standard output:
 //!
 //! ```text
-//! northbridge 1                                  northbridge 1
+//! northbridge 2                                  northbridge 2
 //! world TABLE MEMORY KEY0 KEY1 LAST NEXT         ok
 //! table AT BYTES                                 ok
 //! memory AT BYTES                                ok
-//! serve WORD0 .. WORD7 BUFFER                    answer REFUSAL PLACE FIRST SECOND DROPPED
+//! serve WORD0 .. WORD7 BUFFER                    answer REFUSAL PLACE FIRST SECOND DROPPED LENGTH
 //!                                                       KEY0 KEY1 LAST NEXT BUFFER
 //! show-table AT LENGTH                           bytes BYTES
 //! show-memory AT LENGTH                          bytes BYTES
@@ -32,8 +32,8 @@ struct World {
     memory: Vec<u8>,
 }
 
-/// No line of the bench has more characters: 8,192 bytes, two digits each, and words before them.
-const LINE: u64 = 16_640;
+/// No line of the bench has more characters: 69,632 bytes, two digits each, and words before them.
+const LINE: u64 = 139_520;
 
 /// No table or memory of the bench has more bytes.
 const WORLD: u64 = 1 << 28;
@@ -56,14 +56,15 @@ fn main() -> io::Result<()> {
 fn answer(world: &mut World, line: &str) -> Result<String, String> {
     let words: Vec<&str> = line.split_whitespace().collect();
     match words[..] {
-        ["northbridge", "1"] => Ok("northbridge 1".to_string()),
+        ["northbridge", "2"] => Ok("northbridge 2".to_string()),
+        ["northbridge", ..] => Err("expected version 2".to_string()),
         ["world", ref rest @ ..] => begin(world, rest),
         ["table", at, text] => put(&mut world.table, at, text),
         ["memory", at, text] => put(&mut world.memory, at, text),
         ["serve", ref rest @ .., buffer] => ask(world, rest, buffer),
         ["show-table", at, length] => show(&world.table, at, length),
         ["show-memory", at, length] => show(&world.memory, at, length),
-        _ => Err("expected northbridge 1, world, table, memory, serve or show".to_string()),
+        _ => Err("expected northbridge 2, world, table, memory, serve or show".to_string()),
     }
 }
 
@@ -92,10 +93,10 @@ fn ask(world: &mut World, words: &[&str], buffer: &str) -> Result<String, String
     let mut buffer = bytes(buffer)?;
     let World { state, table, memory } = world;
     let answer = serve(request, state, table, memory, &mut buffer);
-    let model::Answer { refusal, place, first, second, dropped } = answer;
+    let model::Answer { refusal, place, first, second, dropped, length } = answer;
     let State { key0, key1, last, next } = *state;
     let mut line = "answer".to_string();
-    for word in [refusal, place, first, second, dropped, key0, key1, last, next] {
+    for word in [refusal, place, first, second, dropped, length, key0, key1, last, next] {
         let _ = write!(line, " {word:x}");
     }
     Ok(format!("{line} {}", text(&buffer)))

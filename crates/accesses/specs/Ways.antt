@@ -8,7 +8,7 @@ use lib.ListN.{length}
 use Rattle.tokens.specs.Token.{named}
 use Rattle.checks.specs.Holds.{requestHolds}
 use Rattle.checks.specs.Refusals.{stopAs}
-use Rattle.machine.specs.Operations.{load, namedEntry, transfer}
+use Rattle.machine.specs.Operations.{fetch, namedEntry, transfer}
 use Rattle.machine.specs.Parts.{State}
 use Rattle.machine.specs.Requests as request
 use Rattle.machine.specs.Steps.{pass, Verdict, verdict}
@@ -51,4 +51,4 @@ Carries r m t w k u n =
 
 -- the way takes bytes from memory
 abbrev pub Loads : request.Way → Type 0
-Loads w = (a : ℕ) (b : List ℕ) → transfer w a b ≡ load a (length b)
+Loads w = (a : ℕ) (b : List ℕ) → transfer w a b ≡ fetch a (length b)

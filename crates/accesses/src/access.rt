@@ -59,7 +59,7 @@ pub enum Transfer {
 }
 
 // The permissions have the one that an access needs.
-fn holds(way: Way, permissions: u8) -> bool
+pub fn holds(way: Way, permissions: u8) -> bool
     ensures { λ r. ⌜ r ≡ eqb (has permissions (request.rightOf (wayAs way))) 1 ⌝ }
 {
     match way {

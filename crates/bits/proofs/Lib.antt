@@ -1,4 +1,5 @@
 pub mod ByteLaws
+pub mod ByteLists
 pub mod FieldLaws
 pub mod PartLaws
 pub mod SipLaws

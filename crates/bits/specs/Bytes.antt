@@ -1,9 +1,14 @@
 -- The bytes of a number: fields of 8 bits. Entries have the high byte first; SipHash and the number in a tag's message have the low byte first.
 -- Assumes nothing.
-use mathlib.Core.List.{List, reverse}
-use Prim.Native.Nat.{ℕ}
+use mathlib.Core.List.{List, [], _∷_, reverse}
+use Prim.Native.Nat.{ℕ, _<_}
 use lib.ListN.{replicate}
 use Rattle.bits.specs.Fields.{pack, unpack}
+
+-- each of them is a byte
+abbrev pub AllBytes : List ℕ → Type 0
+AllBytes [] = Unit {0}
+AllBytes (x ∷ xs) = (x < 256) × AllBytes xs
 
 -- the low k bytes of a number, the high byte first
 unfoldable pub bytes : ℕ → ℕ → List ℕ

@@ -7,7 +7,7 @@ use Rattle.machine.specs.Stops as stops
 use Rattle.checks.specs.declared.refusal.Bad.{Bad}
 use Rattle.checks.specs.declared.refusal.Bad.the-variants.{Ancestor, Named}
 use Rattle.checks.specs.declared.refusal.Refusal.{Refusal}
-use Rattle.checks.specs.declared.refusal.Refusal.the-variants.{Bounds, Dead, Entry, IllFormed, Kind, Lock, Nonces, Numbers, Request, Right, Standing}
+use Rattle.checks.specs.declared.refusal.Refusal.the-variants.{Bounds, Checksum, Dead, Entry, IllFormed, Kind, Lock, Nonces, Numbers, Record, Request, Right, Room, Standing}
 
 abbrev pub badAs : Bad → line.Bad
 badAs Named = line.itself
@@ -25,6 +25,9 @@ refusalAs Bounds = stops.atBounds
 refusalAs Standing = stops.atStanding
 refusalAs Numbers = stops.atNumbers
 refusalAs Nonces = stops.atNonces
+refusalAs Record = stops.atRecord
+refusalAs Checksum = stops.atChecksum
+refusalAs Room = stops.atRoom
 
 -- the verdict of a refusal
 abbrev pub stopAs : Refusal → Verdict

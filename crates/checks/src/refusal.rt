@@ -9,7 +9,7 @@ pub enum Bad {
     Ancestor,
 }
 
-// Why a request stops, in the order of 01's table.
+// Why a request stops, in the order of 01's table, and after it as 02 numbers them.
 pub enum Refusal {
     // 1: a size or setting is broken, or the request itself.
     Request,
@@ -33,6 +33,12 @@ pub enum Refusal {
     Numbers,
     // 11: too few nonces.
     Nonces,
+    // 12: a malformed record or ending of a text.
+    Record,
+    // 13: a record's checksum is wrong.
+    Checksum,
+    // 14: the output buffer is too small, or the written text too long.
+    Room,
 }
 
 // 01's number of a refusal, and which entry was bad: 0 if it tells of none.
@@ -78,5 +84,8 @@ pub fn told(why: Refusal) -> RefusalWords
         Refusal::Standing => plain(9),
         Refusal::Numbers => plain(10),
         Refusal::Nonces => plain(11),
+        Refusal::Record => plain(12),
+        Refusal::Checksum => plain(13),
+        Refusal::Room => plain(14),
     }
 }

@@ -14,12 +14,12 @@ use Rattle.machine.specs.Parts.{spent, State}
 use Rattle.machine.specs.Refusals.{Told}
 use Rattle.machine.specs.Requests.{Call, Request}
 use Rattle.machine.specs.Steps.{answer, decide, decision, Machine, pass, refused, settle, stop, Verdict, verdict}
-use Rattle.machine.specs.Stops.{atBounds, atEntry, atForm, atKind, atLine, atLock, atNonces, atNumbers, atRequest, atRight, atStanding, Check, checks, needAll, noncesLeft, Places, places, Refusal, refusalBad, refusalNumber, sizes}
+use Rattle.machine.specs.Stops.{atBounds, atChecksum, atEntry, atForm, atKind, atLine, atLock, atNonces, atNumbers, atRecord, atRequest, atRight, atRoom, atStanding, Check, checks, needAll, noncesLeft, Places, places, Refusal, refusalBad, refusalNumber, sizes}
 use Rattle.machine.proofs.Choices.{by-cond}
 
 -- ---- what a refusal tells
 
-plain-told : (n : ℕ) → 1 ≤ n → n ≤ 11 → (3 ≤ n → n ≤ 4 → ⊥) → Told n 0
+plain-told : (n : ℕ) → 1 ≤ n → n ≤ 14 → (3 ≤ n → n ≤ 4 → ⊥) → Told n 0
 plain-told n a b h = record { least = a; most = b; line = λ i j. absurd (h i j); plain = λ i j. refl }
 
 line-told : (n k : ℕ) → 3 ≤ n → n ≤ 4 → 1 ≤ k → k ≤ 2 → Told n k
@@ -39,6 +39,9 @@ tells atBounds = plain-told _ (omega arith) (omega arith) (λ a b. omega arith)
 tells atStanding = plain-told _ (omega arith) (omega arith) (λ a b. omega arith)
 tells atNumbers = plain-told _ (omega arith) (omega arith) (λ a b. omega arith)
 tells atNonces = plain-told _ (omega arith) (omega arith) (λ a b. omega arith)
+tells atRecord = plain-told _ (omega arith) (omega arith) (λ a b. omega arith)
+tells atChecksum = plain-told _ (omega arith) (omega arith) (λ a b. omega arith)
+tells atRoom = plain-told _ (omega arith) (omega arith) (λ a b. omega arith)
 
 -- ---- the verdict
 

@@ -11,6 +11,7 @@ use lib.Bits.{and-le-l}
 use lib.Dec.{leb, ltb, eqb}
 use lib.ListN.{length, length-replicate}
 use borrow.Author.Tests.{eqb-false, eqb-true, leb-true, ltb-false, ltb-true, ne-eqb, not-true}
+use Rattle.hex.specs.Text.{farthest}
 use Rattle.layout.specs.Entry.{direct, directFields, directWidths, free}
 use Rattle.bits.specs.Fields.{Fit}
 use Rattle.tokens.specs.Permissions.{within, X}
@@ -18,11 +19,12 @@ use Rattle.tokens.specs.Token.{named}
 use Rattle.layout.specs.declared.entry.Entry.{Entry}
 use Rattle.machine.specs.Demand3.{above, In, IsReset, itself, Owns, resets, Revokes, revokes}
 use Rattle.machine.specs.FromReset.{Has, Inside, owned}
+use Rattle.machine.specs.Images.{piecesOf}
 use Rattle.machine.specs.Issuing.{issue, newNumber}
 use Rattle.machine.specs.Line.{dead, ill, isLocked, Line, linked, lineOf, lockedFrom, owner, ownerOf, parentNumber}
-use Rattle.machine.specs.Operations.{carried, childOf, climb, Effect, fresh, grant, grantCreate, grantDerive, grantLock, grantMerge, grantRelease, grantRevoke, issuing, mergedOf, namedEntry, nothing, numberOf, partOf, Reply, restOf, revokeNonce, store, transfer}
+use Rattle.machine.specs.Operations.{carried, childOf, climb, Effect, effecting, fresh, grant, grantCreate, grantDerive, grantDump, grantLoad, grantLock, grantMerge, grantRelease, grantRevoke, issuing, mergedOf, namedEntry, nothing, numberOf, partOf, Reply, restOf, revokeNonce, store, transfer}
 use Rattle.machine.specs.Parts.{at, put, size, spent, State}
-use Rattle.machine.specs.Requests.{access, clone, create, derive, executeOnly, fetching, lock, merge, reading, release, Request, reset, revoke, taskOf, unlock, Way, writing}
+use Rattle.machine.specs.Requests.{access, clone, create, derive, dump, executeOnly, fetching, load, lock, merge, reading, release, Request, reset, revoke, taskOf, unlock, Way, writing}
 use Rattle.machine.specs.Stops.{checks}
 use Rattle.machine.specs.Writes.{Book, give, Name, opened, vacate, Write, write, written}
 use Rattle.machine.proofs.Basics.{neqb-true, owner-direct, parent, put-all, put2-all, range}
@@ -30,6 +32,7 @@ use Rattle.machine.proofs.Choices.{by-cond}
 use Rattle.machine.proofs.Decided.{Passed, rest-passed}
 use Rattle.machine.proofs.Fates.{core, Deed, Fate, gone, Inv, issued, kept, Shut, Source, spares, Touches}
 use Rattle.machine.proofs.Fuel.{Live, number-first, revoke-least, walk-owns}
+use Rattle.machine.proofs.PlaceLaws.{placed-touches}
 use Rattle.machine.proofs.Sums.{owned-direct, owned-other, sum-put2, sum-same}
 use Rattle.machine.proofs.TableLaws.{at-other, in-table, put-out, size-put}
 use Rattle.machine.proofs.WriteLaws.{Calm, calm-still, release-calm}
@@ -85,22 +88,28 @@ module _ (m : ℕ) (s : State) (t : List ℕ) (inv : Inv m s t) where
   deed-none q {s′} up sp =
       record { up = up; moves = stay; fate = unmoved q (s′ .next) []; carried = λ n x h. h; spared = sp; good = inv .good; long = refl; sum = refl }
 
+  -- a byte of an entry whose line is open to u is no byte of an entry that is locked for another task
+  owner-shut : (k u : ℕ) → not (eqb (namedEntry t k .kind) 0) ≡ true → Live (lineOf m t (numberOf k)) → not (lockedFrom t u (lineOf m t (numberOf k))) ≡ true
+      → (x : ℕ) → In (namedEntry t k) x → (i : ℕ) → Shut u (at t i) → In (at t i) x → ⊥
+  owner-shut k u full live op x here i sh ins =
+      let l : Line = lineOf m t (numberOf k) in
+      let o : Owns t (numberOf k) (ownerOf l) = owns (numberOf k) full live in
+      let e : ownerOf l ≡ i = inv .tiled (ownerOf l) i x (record { direct = owner-direct o; inside = owner-range m s t inv x o here }) (record { direct = sh .direct; inside = ins }) in
+      owner-open t l u live op (rw e sh)
+
   deed-access : (w : Way) (k u : ℕ) (b : List ℕ) → Passed (checks m s t (access w k u) b) → Deed m s t (access w k u) (carried s t (grant m t (access w k u) b))
   deed-access w k u b h =
       deed-none (access w k u) (omega arith)
       (λ i x sh nr tc ins.
-      let live : Live l = (search, search) in
-      let o : Owns t n (ownerOf l) = owns n (search) live in
       let tc′ = touched w _ b x tc in
-      let here : In (at t n) x = omega (arith, leb-true (named k .offset + length b) (at t n .length) (search)) in
-      let e : ownerOf l ≡ i = inv .tiled (ownerOf l) i x (record { direct = owner-direct o; inside = owner-range m s t inv x o here }) (record { direct = sh .direct; inside = ins }) in
-      owner-open t l u live (search) (rw e sh))
-    where
-      n : ℕ
-      n = numberOf k
+      owner-shut k u (search) (search, search) (search) x (omega (arith, leb-true (named k .offset + length b) (namedEntry t k .length) (search))) i sh ins)
 
-      l : Line
-      l = lineOf m t n
+  -- a load or a dump touches bytes of the named entry alone
+  deed-image : (q : Request) (k : ℕ) (n : ℕ) (f : Effect) → not (eqb (namedEntry t k .kind) 0) ≡ true → Live (lineOf m t (numberOf k)) → not (lockedFrom t (taskOf q) (lineOf m t (numberOf k))) ≡ true
+      → ((x : ℕ) → Touches f x → In (namedEntry t k) x) → Deed m s t q (carried s t (effecting n f))
+  deed-image q k n f full live op touches =
+      deed-none q (omega arith)
+      (λ i x sh nr tc ins. owner-shut k (taskOf q) full live op x (touches x tc) i sh ins)
 
   has : {n x : ℕ} → Has t n x → Holds (at t n) x
   has h = (h .direct, h .inside)
@@ -382,7 +391,7 @@ module _ (m : ℕ) (s : State) (t : List ℕ) (inv : Inv m s t) where
       Left ws = Fading u (written 0 (opened s u) ws .table)
 
   -- writes that issue nothing, after which the table has faded
-  deed-fading : (q : Request) (ws : List Write) (k : ℕ) → Calm ws → Fading t (written 0 (opened s t) ws .table) → Deed m s t q (carried s t (record { writes = ws; encoding = 0; dropped = k; effect = nothing }))
+  deed-fading : (q : Request) (ws : List Write) (k : ℕ) → Calm ws → Fading t (written 0 (opened s t) ws .table) → Deed m s t q (carried s t (record { writes = ws; encoding = 0; dropped = k; length = 0; effect = nothing }))
   deed-fading q ws k c f =
       record {
         up = omega (arith, ap (λ (x : State). x .next) (calm-still 0 (opened s t) ws c .state));
@@ -513,5 +522,15 @@ module _ (m : ℕ) (s : State) (t : List ℕ) (inv : Inv m s t) where
   deed-granted (lock k u) b nr h =
       deed-lock (lock k u) (numberOf k) true u (search) (search, search) (search) (ltb-true u (2 ^ 55) (search)) (not-true _ (search)) refl
   deed-granted (unlock k u) b nr h = deed-lock (unlock k u) (numberOf k) false 0 (search) (search, search) (search) (omega arith) refl refl
+  deed-granted (load k u) b nr h =
+      let ends = rest-passed m s t (load k u) b h .1 .0 in
+      deed-image (load k u) k 0 _ (search) (search, search) (search) (λ x. by x (leb-true (farthest (piecesOf b)) (namedEntry t k .length) ends))
+    where
+      by : (x : ℕ) → farthest (piecesOf b) ≤ namedEntry t k .length → Touches (grantLoad (namedEntry t k) b .effect) x → In (namedEntry t k) x
+      by x e (inl h) = omega (arith, placed-touches (namedEntry t k .base) (piecesOf b) x h)
+  deed-granted (dump k u) b nr h = deed-image (dump k u) k _ _ (search) (search, search) (search) by
+    where
+      by : (x : ℕ) → Touches (grantDump (namedEntry t k) .effect) x → In (namedEntry t k) x
+      by x (inr h) = h
   deed-granted (revoke k c) b nr h =
       deed-revoke k c (eqb-true (namedEntry t k .kind) 1 (search)) (omega (arith, leb-true (revokeNonce s t (numberOf k) + 1) spent (search)))

@@ -1,6 +1,6 @@
 -- What an effect does to memory and buffer.
 -- Assumes nothing.
-use mathlib.Core.Path.{_≡_, refl, sym, _∙_}
+use mathlib.Core.Path.{_≡_, refl, sym, ap, _∙_}
 use mathlib.Core.Logic.{inl, inr}
 use mathlib.Core.List.{List, [], _∷_}
 use Prim.Native.Nat.{ℕ, zero, suc, _+_, _≤_, _<_}
@@ -8,7 +8,8 @@ use native.Mathlib.Omega.{arith}
 use native.Mathlib.Decide.{decLt, ℕ-discrete}
 use lib.ListN.{length, getD, set, replicate, length-set, List·getD-eq-default}
 use lib.Seq.{sets, length-sets, getD-set-same, getD-set-other, set-out}
-use Rattle.machine.specs.Operations.{Effect, Fill, fillFrom, Store, unfilled}
+use Rattle.hex.specs.Written.{written}
+use Rattle.machine.specs.Operations.{Effect, Fill, fillFrom, Store, textFrom, unfilled}
 use Rattle.machine.specs.Steps.{bufferAfter, filled, memoryAfter, stored}
 use Rattle.machine.proofs.Fates.{Filled, Stored, Touches}
 use Rattle.machine.proofs.SliceLaws.{sets-other, slice-agree}
@@ -55,6 +56,7 @@ memory-agree f m m′ x l h = stored-agree (f .stores) m m′ x l h
 filled-agree : (f : Fill) (m m′ b : List ℕ) → length m ≡ length m′ → ((x : ℕ) → Filled f x → getD m x 0 ≡ getD m′ x 0) → filled f m b ≡ filled f m′ b
 filled-agree unfilled m m′ b l h = refl
 filled-agree (fillFrom a n) m m′ b l h = slice-agree m m′ a n l h
+filled-agree (textFrom a n) m m′ b l h = ap (λ (bs : List ℕ). sets b 0 (written bs)) (slice-agree m m′ a n l h)
 
 pub buffer-agree : (f : Effect) (m m′ b : List ℕ) → length m ≡ length m′ → ((x : ℕ) → Touches f x → getD m x 0 ≡ getD m′ x 0) → bufferAfter f m b ≡ bufferAfter f m′ b
 buffer-agree f m m′ b l h = filled-agree (f .fill) m m′ b l (λ x i. h x (inr i))

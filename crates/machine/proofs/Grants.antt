@@ -9,24 +9,29 @@ use native.Mathlib.Omega.{arith}
 use lib.Dec.{eqb}
 use lib.ListN.{length}
 use borrow.Author.Tests.{leb-true, ltb-true}
+use Rattle.hex.specs.Text.{loads, Piece, refused, Said, said}
+use Rattle.hex.specs.Written.{writtenLength}
+use Rattle.hex.proofs.DataLaws.{AllData, said-bytes, SaidBytes}
 use Rattle.layout.specs.Form.{illFormed}
 use Rattle.tokens.specs.Token.{named}
 use Rattle.layout.specs.declared.entry.Entry.{Entry}
 use Rattle.machine.specs.Demand3.{IsReset, resets}
-use Rattle.machine.specs.Lent.{AllBytes}
-use Rattle.machine.specs.Operations.{Effect, Fill, fillFrom, Grant, grant, grantRelease, namedEntry, numberOf, partOf, Store, transfer, unfilled}
+use Rattle.bits.specs.Bytes.{AllBytes}
+use Rattle.machine.specs.Images.{mostText, piecesIn, piecesOf}
+use Rattle.machine.specs.Operations.{Effect, Fill, fillFrom, Grant, grant, grantRelease, namedEntry, numberOf, partOf, placed, Store, textFrom, transfer, unfilled}
 use Rattle.machine.specs.Parts.{size, State}
-use Rattle.machine.specs.Requests.{access, clone, create, derive, executeOnly, fetching, lock, merge, reading, release, Request, reset, revoke, unlock, Way, writing}
+use Rattle.machine.specs.Requests.{access, clone, create, derive, dump, executeOnly, fetching, load, lock, merge, reading, release, Request, reset, revoke, unlock, Way, writing}
 use Rattle.machine.specs.Stops.{checks}
 use Rattle.machine.specs.Writes.{give}
 use Rattle.machine.proofs.Basics.{neqb-true, range}
-use Rattle.machine.proofs.ByteLaws.{bytes-zeros}
+use Rattle.bits.proofs.ByteLists.{bytes-zeros}
 use Rattle.machine.proofs.Choices.{by-cond}
 use Rattle.machine.proofs.Decided.{Passed}
 use Rattle.machine.proofs.Fuel.{line-formed}
 use Rattle.machine.proofs.WriteLaws.{calm-giving, calm-within, giving, release-calm, Within}
 
--- an effect stores bytes, if the buffer has bytes; and it reads as many as the buffer holds, inside memory
+-- an effect stores bytes, if the buffer has bytes; and it reads as many as the buffer holds, inside memory, or so few that their text is no longer than one
+-- may be
 abbrev pub StoreFits : (buffer : List ℕ) → List Store → Type 0
 StoreFits b [] = Unit {0}
 StoreFits b (w ∷ ws) = (AllBytes b → AllBytes (w .bytes)) × StoreFits b ws
@@ -34,6 +39,7 @@ StoreFits b (w ∷ ws) = (AllBytes b → AllBytes (w .bytes)) × StoreFits b ws
 abbrev pub FillFits : (m : ℕ) (buffer : List ℕ) → Fill → Type 0
 FillFits m b unfilled = Unit {0}
 FillFits m b (fillFrom a n) = (a + n ≤ m) × (n ≡ length b)
+FillFits m b (textFrom a n) = writtenLength n ≤ mostText
 
 abbrev pub EffectFits : (m : ℕ) (buffer : List ℕ) → Effect → Type 0
 EffectFits m b f = StoreFits b (f .stores) × FillFits m b (f .fill)
@@ -65,6 +71,19 @@ transfer-fits m reading a b h = (tt, (h, refl))
 transfer-fits m writing a b h = ((λ i. i, tt), tt)
 transfer-fits m fetching a b h = (tt, (h, refl))
 
+-- what is placed in a segment are bytes
+placed-fits : (a : ℕ) (b : List ℕ) (ps : List Piece) → AllData ps → StoreFits b (placed a ps)
+placed-fits a b [] h = tt
+placed-fits a b (p ∷ ps) h = (λ i. h .0, placed-fits a b ps (h .1))
+
+pieces-bytes : (b : List ℕ) → AllData (piecesOf b)
+unfolding piecesOf
+pieces-bytes b = by (said b) (said-bytes b)
+  where
+    by : (s : Said) → SaidBytes s → AllData (piecesIn s)
+    by (refused n) h = tt
+    by (loads ps) h = h
+
 pub granted-fits : (m : ℕ) (s : State) (t : List ℕ) (q : Request) (b : List ℕ) → Passed (checks m s t q b) → Fitting m t q b (grant m t q b)
 granted-fits m s t (reset k0 k1 ν) b h = record { effect = (tt, tt); encoding = omega arith; within = inl resets; few = omega arith }
 granted-fits m s t (access w k u) b h = record { effect = transfer-fits m w _ b (omega (arith, access-inside m s t w k u b h)); encoding = omega arith; within = inr tt; few = omega arith }
@@ -81,4 +100,6 @@ granted-fits m s t (clone k) b h = record { effect = (tt, tt); encoding = omega 
 granted-fits m s t (release k) b h = record { effect = (tt, tt); encoding = omega arith; within = inr (calm-within (size t) (grantRelease m t (numberOf k) .writes) (release-calm m t (numberOf k))); few = omega (arith, calm-giving (grantRelease m t (numberOf k) .writes) (release-calm m t (numberOf k))) }
 granted-fits m s t (lock k u) b h = record { effect = (tt, tt); encoding = omega arith; within = inr tt; few = omega arith }
 granted-fits m s t (unlock k u) b h = record { effect = (tt, tt); encoding = omega arith; within = inr tt; few = omega arith }
+granted-fits m s t (load k u) b h = record { effect = (placed-fits _ b (piecesOf b) (pieces-bytes b), tt); encoding = omega arith; within = inr tt; few = omega arith }
+granted-fits m s t (dump k u) b h = record { effect = (tt, leb-true (writtenLength (namedEntry t k .length)) mostText (search)); encoding = omega arith; within = inr tt; few = omega arith }
 granted-fits m s t (revoke k c) b h = record { effect = ((λ i. search (bytes-zeros), tt), tt); encoding = omega (arith, leb-true c 3 (search)); within = inr (ltb-true (numberOf k) (size t) (search), tt); few = omega arith }

@@ -2,18 +2,21 @@
 -- Assumes nothing.
 use mathlib.Core.Path.{_≡_, refl, _∙_}
 use mathlib.Core.List.{List, [], _∷_}
-use Prim.Native.Nat.{ℕ}
+use Prim.Native.Nat.{ℕ, _≤_}
 use native.Mathlib.Omega.{arith}
-use lib.ListN.{drop, length, length-drop, length-take}
-use lib.Seq.{sets}
+use lib.ListN.{drop, length, length-drop, length-take, take}
+use lib.Seq.{length-sets, sets}
 use Rattle.layout.specs.declared.entry.Entry.{Entry}
-use Rattle.machine.specs.Lent.{AllBytes, AsLong, LentBytes}
-use Rattle.machine.specs.Operations.{Decision, Fill, fillFrom, grant, Store, unfilled}
+use Rattle.bits.specs.Bytes.{AllBytes}
+use Rattle.machine.specs.Lent.{AsLong, LentBytes}
+use Rattle.machine.specs.Operations.{Decision, Fill, fillFrom, grant, Store, textFrom, unfilled}
 use Rattle.machine.specs.Parts.{cleared, put}
 use Rattle.machine.specs.Requests.{Call}
 use Rattle.machine.specs.Steps.{answer, decision, filled, Machine, step, stored}
 use Rattle.machine.specs.Writes.{opened}
-use Rattle.machine.proofs.ByteLaws.{bytes-drop, bytes-sets, bytes-take}
+use Rattle.hex.specs.Written.{written}
+use Rattle.hex.proofs.DataLaws.{written-bytes}
+use Rattle.bits.proofs.ByteLists.{bytes-drop, bytes-sets, bytes-take}
 use Rattle.machine.proofs.Decided.{by-decision}
 use Rattle.machine.proofs.Effects.{memory-long}
 use Rattle.machine.proofs.Grants.{EffectFits, FillFits, granted-fits, StoreFits}
@@ -41,14 +44,18 @@ decided-fits σ q =
 filled-long : (f : Fill) (memory b : List ℕ) → FillFits (length memory) b f → length (filled f memory b) ≡ length b
 filled-long unfilled memory b h = refl
 filled-long (fillFrom a n) memory b h = simp (length-take, length-drop) (omega arith)
+filled-long (textFrom a n) memory b h = length-sets b 0 (written (take n (drop a memory)))
 
 stored-bytes : (ws : List Store) (memory b : List ℕ) → StoreFits b ws → AllBytes memory → AllBytes b → AllBytes (stored ws memory)
 stored-bytes [] memory b h i j = i
 stored-bytes (w ∷ ws) memory b h i j = stored-bytes ws (sets memory (w .start) (w .bytes)) b (h .1) (bytes-sets memory (w .start) (w .bytes) (h .0 j) i) j
 
-filled-bytes : (f : Fill) (memory b : List ℕ) → AllBytes memory → AllBytes b → AllBytes (filled f memory b)
-filled-bytes unfilled memory b i j = j
-filled-bytes (fillFrom a n) memory b i j = bytes-take n (drop a memory) (bytes-drop a memory i)
+filled-bytes : (f : Fill) (memory b : List ℕ) → FillFits (length memory) b f → AllBytes memory → AllBytes b → AllBytes (filled f memory b)
+filled-bytes unfilled memory b h i j = j
+filled-bytes (fillFrom a n) memory b h i j = bytes-take n (drop a memory) (bytes-drop a memory i)
+filled-bytes (textFrom a n) memory b h i j =
+    let long : length (take n (drop a memory)) ≤ n = simp (length-take) (omega arith) in
+    bytes-sets b 0 (written (take n (drop a memory))) (written-bytes (take n (drop a memory)) (omega arith) (bytes-take n (drop a memory) (bytes-drop a memory i))) j
 
 -- ---- every call
 
@@ -67,5 +74,5 @@ bytes-stay σ q h =
     record {
       table = table-stays AllBytes bytes-put (λ t i. bytes-cleared t) σ q (h .table);
       memory = stored-bytes (decision σ q .effect .stores) (σ .memory) (q .buffer) (decided-fits σ q .0) (h .memory) (h .buffer);
-      buffer = filled-bytes (decision σ q .effect .fill) (σ .memory) (q .buffer) (h .memory) (h .buffer);
+      buffer = filled-bytes (decision σ q .effect .fill) (σ .memory) (q .buffer) (decided-fits σ q .1) (h .memory) (h .buffer);
     }

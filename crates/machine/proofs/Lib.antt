@@ -12,6 +12,8 @@ pub mod Fuel
 pub mod Given
 pub mod Grants
 pub mod Lent
+pub mod LoadImages
+pub mod PlaceLaws
 pub mod Recorded
 pub mod Refused
 pub mod Rows

@@ -12,7 +12,7 @@ refused-keeps σ q h = go (turned σ q)
   where
     go : Turned σ q → Untouched σ q
     go (taken a p e) = absurd (h a)
-    go (away r e n) = record { machine = rw e; buffer = rw e; tokens = rw e; dropped = rw e; issued = rw e }
+    go (away r e n) = record { machine = rw e; buffer = rw e; tokens = rw e; dropped = rw e; length = rw e; issued = rw e }
 
 pub refused-tells : (σ : Machine) (q : Call) → answer σ q .reply .refusal ≢ 0 → Told (answer σ q .reply .refusal) (answer σ q .reply .bad)
 unfolding answer

@@ -11,7 +11,7 @@ use lib.ListN.{length}
 use borrow.Author.Tests.{eqb-true, le-leb, ltb-true}
 use Rattle.machine.specs.Operations.{Grant, grant}
 use Rattle.machine.specs.Parts.{begun, spent, State}
-use Rattle.machine.specs.Requests.{access, Call, clone, create, derive, executeOnly, lock, merge, release, Request, reset, revoke, taskOf, unlock}
+use Rattle.machine.specs.Requests.{access, Call, clone, create, derive, dump, executeOnly, load, lock, merge, release, Request, reset, revoke, taskOf, unlock}
 use Rattle.machine.specs.Rows.{Among, ended, numbers, Ordered, row, Tasks}
 use Rattle.machine.specs.Steps.{answer, decide, Machine, pass, settle, stop, Verdict, verdict}
 use Rattle.machine.specs.Stops.{atRequest, Check, checks, needAll, noncesLeft, places, refusalNumber, settings, sizes}
@@ -81,6 +81,10 @@ module _ (m : ℕ) (s : State) (t : List ℕ) (q : Request) (b : List ℕ) where
 fifth : {a b c d : ℕ} {ns : List ℕ} → List·Memᴰ 5 (a ∷ b ∷ c ∷ d ∷ 5 ∷ ns)
 fifth = List·Memᴰ·tail (List·Memᴰ·tail (List·Memᴰ·tail (List·Memᴰ·tail (List·Memᴰ·head refl))))
 
+-- and after 12 and 13
+sixth : {a b c d e f : ℕ} {ns : List ℕ} → List·Memᴰ 5 (a ∷ b ∷ c ∷ d ∷ e ∷ f ∷ 5 ∷ ns)
+sixth = List·Memᴰ·tail (List·Memᴰ·tail fifth)
+
 -- its checks are those of its row, what stops it is one of them, and it carries a task only if it is judged for the lock
 row-of : (m : ℕ) (s : State) (t : List ℕ) (q : Request) (b : List ℕ)
     → (numbers 0 (checks m s t q b) ≡ ended (row q)) × Stopped (0 ∷ row q) (verdict (checks m s t q b)) × ((taskOf q ≡ 0) ⊎ List·Memᴰ 5 (row q))
@@ -94,6 +98,8 @@ row-of m s t (clone k) b = (refl, spares m s t (clone k) b refl (calm m s t (clo
 row-of m s t (release k) b = (refl, spares m s t (release k) b refl (calm m s t (release k) b _ refl (release-calm m t _)), inl refl)
 row-of m s t (lock k u) b = (refl, spares m s t (lock k u) b refl (calm m s t (lock k u) b _ refl tt), inr fifth)
 row-of m s t (unlock k u) b = (refl, spares m s t (unlock k u) b refl (calm m s t (unlock k u) b _ refl tt), inr fifth)
+row-of m s t (load k u) b = (refl, spares m s t (load k u) b refl (calm m s t (load k u) b _ refl tt), inr sixth)
+row-of m s t (dump k u) b = (refl, spares m s t (dump k u) b refl (calm m s t (dump k u) b _ refl tt), inr fifth)
 row-of m s t (revoke k c) b = (refl, issues m s t (revoke k c) b refl, inl refl)
 
 pub rows-ordered : Ordered

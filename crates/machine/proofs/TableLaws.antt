@@ -16,8 +16,9 @@ use Rattle.layout.specs.declared.entry.Entry.{Entry}
 use Rattle.bits.proofs.ByteLaws.{length-bytes}
 use Rattle.layout.proofs.FormLaws.{free-back, well-formed-back, written-read}
 use Rattle.machine.specs.Parts.{at, cleared, put, size}
-use Rattle.machine.specs.Lent.{AllBytes}
-use Rattle.machine.proofs.ByteLaws.{bytes-drop, bytes-fit, bytes-sets, bytes-take, bytes-zeros, entry-bytes}
+use Rattle.bits.specs.Bytes.{AllBytes}
+use Rattle.bits.proofs.ByteLists.{bytes-drop, bytes-sets, bytes-take, bytes-zeros}
+use Rattle.machine.proofs.ByteLaws.{bytes-fit, entry-bytes}
 use Rattle.machine.proofs.SliceLaws.{all-zeros, slice-agree, slice-same, sets-other}
 
 -- ---- reading and writing by number

@@ -1,15 +1,12 @@
 -- What is lent stays what it was lent as: lists of bytes, as long as they were (01, "The parts of the machine").
 -- Assumes nothing.
 use mathlib.Core.Path.{_≡_}
-use mathlib.Core.List.{List, [], _∷_}
-use Prim.Native.Nat.{ℕ, _<_}
+use mathlib.Core.List.{List}
+use Prim.Native.Nat.{ℕ}
 use lib.ListN.{length}
+use Rattle.bits.specs.Bytes.{AllBytes}
 use Rattle.machine.specs.Requests.{Call}
 use Rattle.machine.specs.Steps.{answer, Machine, step}
-
-abbrev pub AllBytes : List ℕ → Type 0
-AllBytes [] = Unit {0}
-AllBytes (x ∷ xs) = (x < 256) × AllBytes xs
 
 -- table, memory and buffer b are lists of bytes
 pub record LentBytes (σ : Machine) (b : List ℕ) : Type 0 where

@@ -2,9 +2,11 @@ pub mod Demand3
 pub mod Depth
 pub mod FromReset
 pub mod Given
+pub mod Images
 pub mod Issuing
 pub mod Lent
 pub mod Line
+pub mod LoadImages
 pub mod Operations
 pub mod Parts
 pub mod Recorded

@@ -7,37 +7,43 @@ use Prim.Native.Nat.{ℕ, zero, suc, _+_, _-_}
 use lib.Bits.{bitAnd}
 use lib.Dec.{eqb, leb}
 use lib.ListN.{length, replicate}
+use Rattle.hex.specs.Text.{Piece}
+use Rattle.hex.specs.Written.{writtenLength}
 use Rattle.layout.specs.Entry.{direct, indirect, recounted, relocked}
 use Rattle.tokens.specs.Permissions.{X}
 use Rattle.tokens.specs.Token.{named}
 use Rattle.layout.specs.declared.entry.Entry.{Entry}
+use Rattle.machine.specs.Images.{piecesOf}
 use Rattle.machine.specs.Line.{isLocked, lineOf, linked, ownerOf, parentNumber}
 use Rattle.machine.specs.Parts.{at, State}
-use Rattle.machine.specs.Requests.{access, clone, create, derive, executeOnly, fetching, lock, merge, reading, release, Request, reset, revoke, unlock, Way, writing}
+use Rattle.machine.specs.Requests.{access, clone, create, derive, dump, executeOnly, fetching, load, lock, merge, reading, release, Request, reset, revoke, unlock, Way, writing}
 use Rattle.machine.specs.Writes.{alter, begin, Book, give, Name, nameOf, opened, otherNonce, reissue, renew, tokenFor, vacate, vacated, Write, written}
 
 -- ---- what a request hands back
 
 -- Beside the state and the buffer: the refusal's number (0 granted), for 3 and 4 which entry was bad (1 the named one, 2 an ancestor, else 0), the tokens
--- and drop's number. The word 0 is a real token, the root's in encoding 0: the list's length tells it from none.
+-- and drop's number. The word 0 is a real token, the root's in encoding 0: the list's length tells it from none. 02, paper 2: "Here and later, an answer that
+-- may be shorter than its buffer also tells its length in bytes"; in any other it is 0.
 pub record Reply : Type 0 where
   pub refusal : ℕ
   pub bad : ℕ
   pub tokens : List ℕ
   pub dropped : ℕ
+  pub length : ℕ
 
-abbrev pub granted : (tokens : List ℕ) (dropped : ℕ) → Reply
-granted ks d = record { refusal = 0; bad = 0; tokens = ks; dropped = d }
+abbrev pub granted : (tokens : List ℕ) (dropped length : ℕ) → Reply
+granted ks d n = record { refusal = 0; bad = 0; tokens = ks; dropped = d; length = n }
 
 -- bytes that are stored in memory, from start on
 pub record Store : Type 0 where
   pub start : ℕ
   pub bytes : List ℕ
 
--- what the buffer comes back with: its own bytes, or a range of memory
+-- what the buffer comes back with: its own bytes; a range of memory; or the text of a range at its front, and its own bytes after that
 pub data Fill : Type 0 where
   unfilled : Fill
   fillFrom : (start length : ℕ) → Fill
+  textFrom : (start length : ℕ) → Fill
 
 -- what is done to memory and buffer: the stores, one after the other, and the fill, from memory as it was before them
 pub record Effect : Type 0 where
@@ -48,11 +54,15 @@ pub record Effect : Type 0 where
 abbrev pub nothing : Effect
 nothing = record { stores = []; fill = unfilled }
 
-abbrev pub load : (start length : ℕ) → Effect
-load a n = record { stores = []; fill = fillFrom a n }
+abbrev pub fetch : (start length : ℕ) → Effect
+fetch a n = record { stores = []; fill = fillFrom a n }
 
 abbrev pub store : (start : ℕ) (bytes : List ℕ) → Effect
 store a bs = record { stores = record { start = a; bytes = bs } ∷ []; fill = unfilled }
+
+-- the text of a range of memory goes to the front of the buffer
+abbrev pub text : (start length : ℕ) → Effect
+text a n = record { stores = []; fill = textFrom a n }
 
 -- `issued` has the tokens of the entries that were issued in the request
 pub record Decision : Type 0 where
@@ -64,11 +74,12 @@ pub record Decision : Type 0 where
 
 -- ---- what a granted request does
 
--- its writes, the encoding of the tokens in its answer, drop's number, and the effect
+-- its writes, the encoding of the tokens in its answer, drop's number, the answer's length where it tells one, and the effect
 pub record Grant : Type 0 where
   pub writes : List Write
   pub encoding : ℕ
   pub dropped : ℕ
+  pub length : ℕ
   pub effect : Effect
 
 -- the writes of a grant, one after the other
@@ -79,14 +90,18 @@ book s t g = written (g .encoding) (opened s t) (g .writes)
 abbrev pub carried : State → List ℕ → Grant → Decision
 carried s t g =
     let b = book s t g in
-    record { state = b .state; table = b .table; reply = granted (b .tokens) (g .dropped); issued = b .issued; effect = g .effect }
+    record { state = b .state; table = b .table; reply = granted (b .tokens) (g .dropped) (g .length); issued = b .issued; effect = g .effect }
 
 -- writes alone, with tokens in encoding c; and writes that issue none
 abbrev pub issuing : (encoding : ℕ) → List Write → Grant
-issuing c ws = record { writes = ws; encoding = c; dropped = 0; effect = nothing }
+issuing c ws = record { writes = ws; encoding = c; dropped = 0; length = 0; effect = nothing }
 
 abbrev pub altering : List Write → Grant
 altering ws = issuing 0 ws
+
+-- no writes, and an effect, with the answer's length
+abbrev pub effecting : (length : ℕ) → Effect → Grant
+effecting n f = record { writes = []; encoding = 0; dropped = 0; length = n; effect = f }
 
 -- the number that a token names
 abbrev pub numberOf : ℕ → ℕ
@@ -108,12 +123,12 @@ grantReset m k0 k1 ν = issuing 0 (begin m k0 k1 ν ∷ [])
 
 -- access: the bytes at the token's offset in the segment; the buffer's length is the transfer's
 abbrev pub transfer : Way → (start : ℕ) → (buffer : List ℕ) → Effect
-transfer reading a b = load a (length b)
+transfer reading a b = fetch a (length b)
 transfer writing a b = store a b
-transfer fetching a b = load a (length b)
+transfer fetching a b = fetch a (length b)
 
 abbrev pub grantAccess : List ℕ → Way → (token : ℕ) → List ℕ → Grant
-grantAccess t w k b = record { writes = []; encoding = 0; dropped = 0; effect = transfer w (namedEntry t k .base + named k .offset) b }
+grantAccess t w k b = effecting 0 (transfer w (namedEntry t k .base + named k .offset) b)
 
 -- create: a front part of the wanted length under a new number, issued first: the request's user and permissions, Lockable as before
 abbrev pub partOf : Entry → (length user permissions : ℕ) → ℕ → Entry
@@ -161,7 +176,7 @@ abbrev pub grantRelease : ℕ → List ℕ → ℕ → Grant
 grantRelease m t n =
     let one = eqb (at t n .count) 1 in
     let locked = isLocked t (lineOf m t n) in
-    record { writes = cond (one && locked) [] (climb (suc (at t n .nonce)) t n); encoding = 0; dropped = cond (one && not locked) 1 0; effect = nothing }
+    record { writes = cond (one && locked) [] (climb (suc (at t n .nonce)) t n); encoding = 0; dropped = cond (one && not locked) 1 0; length = 0; effect = nothing }
 
 -- lock, "through any token of the line, sets Locked and holder at the owner"; "by the holder again it [..] succeeds and changes nothing"; unlock
 -- clears both
@@ -176,7 +191,19 @@ abbrev pub revokeNonce : State → List ℕ → ℕ → ℕ
 revokeNonce s t n = otherNonce s t n (fresh (at t n))
 
 abbrev pub grantRevoke : List ℕ → ℕ → (encoding : ℕ) → Grant
-grantRevoke t n c = record { writes = renew n (fresh (at t n)) ∷ []; encoding = c; dropped = 0; effect = store (at t n .base) (replicate (at t n .length) 0) }
+grantRevoke t n c = record { writes = renew n (fresh (at t n)) ∷ []; encoding = c; dropped = 0; length = 0; effect = store (at t n .base) (replicate (at t n .length) 0) }
+
+-- load "writes the data at its offsets"; "where records overlap, the later one wins": pieces of data, one after the other, in a segment from its base on
+abbrev pub placed : (base : ℕ) → List Piece → List Store
+placed a [] = []
+placed a (p ∷ ps) = record { start = a + p .at; bytes = p .bytes } ∷ placed a ps
+
+abbrev pub grantLoad : Entry → (text : List ℕ) → Grant
+grantLoad e b = effecting 0 (record { stores = placed (e .base) (piecesOf b); fill = unfilled })
+
+-- dump "turns a readable segment [..] into such text"
+abbrev pub grantDump : Entry → Grant
+grantDump e = effecting (writtenLength (e .length)) (text (e .base) (e .length))
 
 -- what a granted request does, where the memory has m bytes and the request brings the buffer b. "Execute-only: the same [as derive], without the
 -- sum, over the whole segment with X alone."
@@ -192,3 +219,5 @@ grant m t (release k) b = grantRelease m t (numberOf k)
 grant m t (lock k u) b = grantLock t (ownerOf (lineOf m t (numberOf k))) true u
 grant m t (unlock k u) b = grantLock t (ownerOf (lineOf m t (numberOf k))) false 0
 grant m t (revoke k c) b = grantRevoke t (numberOf k) c
+grant m t (load k u) b = grantLoad (namedEntry t k) b
+grant m t (dump k u) b = grantDump (namedEntry t k)

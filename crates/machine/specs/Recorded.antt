@@ -28,6 +28,7 @@ pub record Told : Type 0 where
   pub bad : ℕ
   pub tokens : List ℕ
   pub dropped : ℕ
+  pub length : ℕ
   pub last : ℕ
   pub next : ℕ
   pub effect : Effect
@@ -38,10 +39,14 @@ pub record Row : Type 0 where
 
 -- a row of a granted request, and of a refused one
 abbrev pub grants : Call → (tokens : List ℕ) (dropped last next : ℕ) → Effect → Row
-grants q ks d l ν f = record { call = q; told = record { refusal = 0; bad = 0; tokens = ks; dropped = d; last = l; next = ν; effect = f } }
+grants q ks d l ν f = record { call = q; told = record { refusal = 0; bad = 0; tokens = ks; dropped = d; length = 0; last = l; next = ν; effect = f } }
+
+-- of a granted dump, by its text's length
+abbrev pub dumps : Call → (length last next : ℕ) → Effect → Row
+dumps q n l ν f = record { call = q; told = record { refusal = 0; bad = 0; tokens = []; dropped = 0; length = n; last = l; next = ν; effect = f } }
 
 abbrev pub refuses : Call → (refusal bad last next : ℕ) → Row
-refuses q r b l ν = record { call = q; told = record { refusal = r; bad = b; tokens = []; dropped = 0; last = l; next = ν; effect = nothing } }
+refuses q r b l ν = record { call = q; told = record { refusal = r; bad = b; tokens = []; dropped = 0; length = 0; last = l; next = ν; effect = nothing } }
 
 -- A session over a memory of so many bytes: state and table at its start, its rows, and the table that it leaves. An entry of a table is one number of 32
 -- bytes, "Byte 0 holds the top bits".
@@ -63,7 +68,7 @@ pub record Outcome : Type 0 where
 
 -- of the machine
 abbrev toldOf : Decision → Told
-toldOf d = record { refusal = d .reply .refusal; bad = d .reply .bad; tokens = d .reply .tokens; dropped = d .reply .dropped; last = d .state .last; next = d .state .next; effect = d .effect }
+toldOf d = record { refusal = d .reply .refusal; bad = d .reply .bad; tokens = d .reply .tokens; dropped = d .reply .dropped; length = d .reply .length; last = d .state .last; next = d .state .next; effect = d .effect }
 
 abbrev pub served : Session → Outcome
 served s =

@@ -1,15 +1,19 @@
 -- Sessions as the second implementation (bench/model, written from the papers alone) served them: its answers, its state and the bytes of its table. No number
 -- here was had from the definitions; bench/model/tests/recordings.rs holds the model to each row. A granted row: tokens, drop's number, last number, next
--- nonce, effect; a refused one: refusal, which entry was bad, last number, next nonce. The model hands back buffer and memory; an effect is told by which of
--- their bytes changed.
+-- nonce, effect; a dump: its text's length, last number, next nonce, effect; a refused one: refusal, which entry was bad, last number, next nonce. The model
+-- hands back buffer and memory; an effect is told by which of their bytes changed.
 -- Assumes nothing.
 use mathlib.Core.List.{List, [], _∷_}
 use Prim.Native.Nat.{ℕ}
 use Rattle.layout.specs.Examples.{Row}
-use Rattle.machine.specs.Operations.{load, nothing, store}
-use Rattle.machine.specs.Recorded.{grants, known, limit, moves, over, refuses, Session, zeros}
-use Rattle.machine.specs.Requests.{access, clone, create, derive, executeOnly, fetching, lock, merge, reading, release, reset, revoke, unlock, writing}
+use Rattle.machine.specs.Operations.{fetch, nothing, store, text}
+use Rattle.machine.specs.Recorded.{dumps, grants, known, limit, moves, over, refuses, Session, zeros}
+use Rattle.machine.specs.Requests.{access, clone, create, derive, dump, executeOnly, fetching, load, lock, merge, reading, release, reset, revoke, unlock, writing}
 use Rattle.machine.specs.Session.{plain}
+
+-- a text of an end record alone
+abbrev ended : List ℕ
+ended = 58 ∷ 48 ∷ 48 ∷ 48 ∷ 48 ∷ 48 ∷ 48 ∷ 48 ∷ 49 ∷ 70 ∷ 70 ∷ 10 ∷ []
 
 -- A table that no reset leaves. Entry n has tag a0 + n, hex. 0, 3, 4, 13 and 14 are direct, 3 not Lockable; 1 is locked for 7 and not Lockable, and 2 is under it; 5 and 11 are
 -- ill-formed, 6 is under 5; 7 has a parent token with another tag, 8 is under 7; 9 is under 3, with count 65,534; 10 has no older parent; 12 is under 4.
@@ -49,17 +53,17 @@ fromReset = record {
       ∷ refuses (plain (derive 0xafb3c00000010000 0 1 0 0)) 10 0 4 6
       ∷ refuses (plain (create 0xafb3c00000010000 0 8 0 0 0)) 9 0 4 6
       -- accesses at a segment's edges
-      ∷ grants (over (zeros 13) (access reading 0x898ac00000000003 0)) [] 0 4 6 (load 11 13)
+      ∷ grants (over (zeros 13) (access reading 0x898ac00000000003 0)) [] 0 4 6 (fetch 11 13)
       ∷ grants (over (200 ∷ []) (access writing 0xf5c0000002000004 0)) [] 0 4 6 (store 6 (200 ∷ []))
       ∷ refuses (over (200 ∷ 201 ∷ []) (access writing 0xf5c0000002000004 0)) 8 0 4 6
-      ∷ grants (over (zeros 1) (access fetching 0x325980040000000f 0)) [] 0 4 6 (load 23 1)
+      ∷ grants (over (zeros 1) (access fetching 0x325980040000000f 0)) [] 0 4 6 (fetch 23 1)
       ∷ grants (plain (clone 0xf5c0000002000000)) [] 0 4 6 nothing
       -- a lock through the grandchild, again, by another; drops under it
       ∷ grants (plain (lock 0x5cc2000000000003 7)) [] 0 4 6 nothing
       ∷ grants (plain (lock 0xafb3c00000010000 7)) [] 0 4 6 nothing
       ∷ refuses (plain (lock 0xf5c0000002000000 8)) 5 0 4 6
       ∷ refuses (over (zeros 1) (access reading 0x5cc2000000000003 0)) 5 0 4 6
-      ∷ grants (over (zeros 2) (access reading 0x5cc2000000000003 7)) [] 0 4 6 (load 3 2)
+      ∷ grants (over (zeros 2) (access reading 0x5cc2000000000003 7)) [] 0 4 6 (fetch 3 2)
       ∷ grants (plain (release 0x5cc2000000000003)) [] 0 4 6 nothing
       ∷ grants (plain (release 0xf5c0000002000000)) [] 0 4 6 nothing
       ∷ refuses (plain (unlock 0x5cc2000000000003 8)) 5 0 4 6
@@ -75,7 +79,7 @@ fromReset = record {
       ∷ refuses (over (zeros 1) (access reading 0xafb3c00000010000 0)) 2 0 4 7
       -- a revoke
       ∷ grants (plain (revoke 0xc14a800001000000 1)) (0x7bcf000000000001 ∷ []) 0 4 8 (store 0 (zeros 24))
-      ∷ grants (over (zeros 24) (access reading 0x7bcf000000000001 0)) [] 0 4 8 (load 0 24)
+      ∷ grants (over (zeros 24) (access reading 0x7bcf000000000001 0)) [] 0 4 8 (fetch 0 24)
       ∷ refuses (over (zeros 1) (access reading 0 0)) 2 0 4 8
       ∷ [];
   left =
@@ -114,7 +118,24 @@ handedOver = record {
       ∷ refuses (over (zeros 1) (access reading 0x402a400000000009 0)) 7 0 14 100
       ∷ refuses (over (zeros 1) (access reading 0x28000000000010 0)) 8 0 14 100
       ∷ refuses (over (zeros 2) (access reading 0x2800000000000f 0)) 8 0 14 100
-      ∷ grants (over (zeros 1) (access reading 0x2800000000000f 36028797018963967)) [] 0 14 100 (load 15 1)
+      ∷ grants (over (zeros 1) (access reading 0x2800000000000f 36028797018963967)) [] 0 14 100 (fetch 15 1)
+      -- load and dump
+      ∷ refuses (over ended (load 0xf00000000 0)) 2 0 14 100
+      ∷ refuses (over ended (load 0x4029400000000005 0)) 3 1 14 100
+      ∷ refuses (over ended (load 0x29800600000000 0)) 3 2 14 100
+      ∷ refuses (over ended (load 0x4029c00000000007 0)) 4 1 14 100
+      ∷ refuses (over ended (load 0x402a000000000008 0)) 4 2 14 100
+      ∷ refuses (over ended (load 0x4028800000000002 0)) 5 0 14 100
+      ∷ refuses (over ended (load 0x402a400000000009 0)) 7 0 14 100
+      ∷ refuses (over (zeros 56) (dump 0xf00000000 0)) 2 0 14 100
+      ∷ refuses (over (zeros 56) (dump 0x4029400000000005 0)) 3 1 14 100
+      ∷ refuses (over (zeros 56) (dump 0x29800600000000 0)) 3 2 14 100
+      ∷ refuses (over (zeros 56) (dump 0x4029c00000000007 0)) 4 1 14 100
+      ∷ refuses (over (zeros 56) (dump 0x402a000000000008 0)) 4 2 14 100
+      ∷ refuses (over (zeros 56) (dump 0x4028800000000002 0)) 5 0 14 100
+      ∷ refuses (over (zeros 56) (dump 0x4028c00000000003 0)) 7 0 14 100
+      ∷ dumps (over (zeros 72) (dump 0x28000000000000 36028797018963967)) 72 14 100 (text 0 16)
+      ∷ grants (over ended (load 0x28000000000000 36028797018963967)) [] 0 14 100 nothing
       -- create
       ∷ refuses (plain (create 0x4028000000000000 36028797018963968 1 0 0 0)) 1 0 14 100
       ∷ refuses (plain (create 0x4028000000000000 0 1 0 0 4)) 1 0 14 100
@@ -337,6 +358,49 @@ noneLeft = record {
       ∷ [];
 }
 
+-- loads and dumps of 20 bytes (02, paper 2)
+abbrev imaged : Session
+imaged = record {
+  memory = 20;
+  state = known 0 0 0 0;
+  table = 0 ∷ 0 ∷ [];
+  rows =
+      grants (plain (reset 0 0 1)) [] 0 0 1 nothing
+      -- three bytes at 2; an end record alone
+      ∷ grants (over (58 ∷ 48 ∷ 51 ∷ 48 ∷ 48 ∷ 48 ∷ 50 ∷ 48 ∷ 48 ∷ 67 ∷ 57 ∷ 67 ∷ 65 ∷ 67 ∷ 66 ∷ 57 ∷ 68 ∷ 10 ∷ 58 ∷ 48 ∷ 48 ∷ 48 ∷ 48 ∷ 48 ∷ 48 ∷ 48 ∷ 49 ∷ 70 ∷ 70 ∷ 10 ∷ []) (load 0 0)) [] 0 0 1 (store 2 (201 ∷ 202 ∷ 203 ∷ []))
+      ∷ grants (over (58 ∷ 48 ∷ 48 ∷ 48 ∷ 48 ∷ 48 ∷ 48 ∷ 48 ∷ 49 ∷ 70 ∷ 70 ∷ 10 ∷ []) (load 0 0)) [] 0 0 1 nothing
+      -- no text; no end record; two; CR LF
+      ∷ refuses (over [] (load 0 0)) 12 0 0 1
+      ∷ refuses (over (58 ∷ 48 ∷ 49 ∷ 48 ∷ 48 ∷ 48 ∷ 50 ∷ 48 ∷ 48 ∷ 67 ∷ 57 ∷ 51 ∷ 52 ∷ 10 ∷ []) (load 0 0)) 12 0 0 1
+      ∷ refuses (over (58 ∷ 48 ∷ 48 ∷ 48 ∷ 48 ∷ 48 ∷ 48 ∷ 48 ∷ 49 ∷ 70 ∷ 70 ∷ 10 ∷ 58 ∷ 48 ∷ 48 ∷ 48 ∷ 48 ∷ 48 ∷ 48 ∷ 48 ∷ 49 ∷ 70 ∷ 70 ∷ 10 ∷ []) (load 0 0)) 12 0 0 1
+      ∷ refuses (over (58 ∷ 48 ∷ 48 ∷ 48 ∷ 48 ∷ 48 ∷ 48 ∷ 48 ∷ 49 ∷ 70 ∷ 70 ∷ 13 ∷ 10 ∷ []) (load 0 0)) 12 0 0 1
+      -- a wrong checksum, before and after a malformed record
+      ∷ refuses (over (58 ∷ 48 ∷ 49 ∷ 48 ∷ 48 ∷ 48 ∷ 50 ∷ 48 ∷ 48 ∷ 67 ∷ 57 ∷ 51 ∷ 53 ∷ 10 ∷ 58 ∷ 48 ∷ 48 ∷ 48 ∷ 48 ∷ 48 ∷ 48 ∷ 48 ∷ 49 ∷ 70 ∷ 70 ∷ 10 ∷ []) (load 0 0)) 13 0 0 1
+      ∷ refuses (over (58 ∷ 48 ∷ 49 ∷ 48 ∷ 48 ∷ 48 ∷ 50 ∷ 48 ∷ 48 ∷ 67 ∷ 57 ∷ 51 ∷ 53 ∷ 10 ∷ 10 ∷ []) (load 0 0)) 13 0 0 1
+      ∷ refuses (over (10 ∷ 58 ∷ 48 ∷ 49 ∷ 48 ∷ 48 ∷ 48 ∷ 50 ∷ 48 ∷ 48 ∷ 67 ∷ 57 ∷ 51 ∷ 53 ∷ 10 ∷ []) (load 0 0)) 12 0 0 1
+      -- past the segment's end, by one byte and by a page; no byte there
+      ∷ refuses (over (58 ∷ 48 ∷ 51 ∷ 48 ∷ 48 ∷ 49 ∷ 50 ∷ 48 ∷ 48 ∷ 48 ∷ 49 ∷ 48 ∷ 50 ∷ 48 ∷ 51 ∷ 69 ∷ 53 ∷ 10 ∷ 58 ∷ 48 ∷ 48 ∷ 48 ∷ 48 ∷ 48 ∷ 48 ∷ 48 ∷ 49 ∷ 70 ∷ 70 ∷ 10 ∷ []) (load 0 0)) 8 0 0 1
+      ∷ refuses (over (58 ∷ 48 ∷ 50 ∷ 48 ∷ 48 ∷ 48 ∷ 48 ∷ 48 ∷ 52 ∷ 48 ∷ 48 ∷ 48 ∷ 49 ∷ 70 ∷ 57 ∷ 10 ∷ 58 ∷ 48 ∷ 49 ∷ 48 ∷ 48 ∷ 48 ∷ 48 ∷ 48 ∷ 48 ∷ 48 ∷ 49 ∷ 70 ∷ 69 ∷ 10 ∷ 58 ∷ 48 ∷ 48 ∷ 48 ∷ 48 ∷ 48 ∷ 48 ∷ 48 ∷ 49 ∷ 70 ∷ 70 ∷ 10 ∷ []) (load 0 0)) 8 0 0 1
+      ∷ grants (over (58 ∷ 48 ∷ 50 ∷ 48 ∷ 48 ∷ 48 ∷ 48 ∷ 48 ∷ 52 ∷ 48 ∷ 48 ∷ 48 ∷ 49 ∷ 70 ∷ 57 ∷ 10 ∷ 58 ∷ 48 ∷ 48 ∷ 48 ∷ 48 ∷ 48 ∷ 57 ∷ 48 ∷ 48 ∷ 70 ∷ 55 ∷ 10 ∷ 58 ∷ 48 ∷ 48 ∷ 48 ∷ 48 ∷ 48 ∷ 48 ∷ 48 ∷ 49 ∷ 70 ∷ 70 ∷ 10 ∷ []) (load 0 0)) [] 0 0 1 nothing
+      -- an offset; a bad text, and a good one, through a token that names nothing
+      ∷ refuses (over (58 ∷ 48 ∷ 51 ∷ 48 ∷ 48 ∷ 48 ∷ 50 ∷ 48 ∷ 48 ∷ 67 ∷ 57 ∷ 67 ∷ 65 ∷ 67 ∷ 66 ∷ 57 ∷ 68 ∷ 10 ∷ 58 ∷ 48 ∷ 48 ∷ 48 ∷ 48 ∷ 48 ∷ 48 ∷ 48 ∷ 49 ∷ 70 ∷ 70 ∷ 10 ∷ []) (load 1 0)) 1 0 0 1
+      ∷ refuses (over [] (load 1 0)) 1 0 0 1
+      ∷ refuses (over [] (load 1099511627776 0)) 12 0 0 1
+      ∷ refuses (over (58 ∷ 48 ∷ 51 ∷ 48 ∷ 48 ∷ 48 ∷ 50 ∷ 48 ∷ 48 ∷ 67 ∷ 57 ∷ 67 ∷ 65 ∷ 67 ∷ 66 ∷ 57 ∷ 68 ∷ 10 ∷ 58 ∷ 48 ∷ 48 ∷ 48 ∷ 48 ∷ 48 ∷ 48 ∷ 48 ∷ 49 ∷ 70 ∷ 70 ∷ 10 ∷ []) (load 1099511627776 0)) 2 0 0 1
+      -- the text of 20 bytes; a buffer that lacks one; an offset
+      ∷ dumps (over (zeros 92) (dump 0 0)) 92 0 1 (text 0 20)
+      ∷ refuses (over (zeros 91) (dump 0 0)) 14 0 0 1
+      ∷ refuses (over (zeros 92) (dump 1 0)) 1 0 0 1
+      -- under a lock
+      ∷ grants (plain (lock 0 7)) [] 0 0 1 nothing
+      ∷ refuses (over (58 ∷ 48 ∷ 51 ∷ 48 ∷ 48 ∷ 48 ∷ 50 ∷ 48 ∷ 48 ∷ 67 ∷ 57 ∷ 67 ∷ 65 ∷ 67 ∷ 66 ∷ 57 ∷ 68 ∷ 10 ∷ 58 ∷ 48 ∷ 48 ∷ 48 ∷ 48 ∷ 48 ∷ 48 ∷ 48 ∷ 49 ∷ 70 ∷ 70 ∷ 10 ∷ []) (load 0 8)) 5 0 0 1
+      ∷ refuses (over (zeros 92) (dump 0 0)) 5 0 0 1
+      ∷ grants (over (58 ∷ 48 ∷ 51 ∷ 48 ∷ 48 ∷ 48 ∷ 50 ∷ 48 ∷ 48 ∷ 67 ∷ 57 ∷ 67 ∷ 65 ∷ 67 ∷ 66 ∷ 57 ∷ 68 ∷ 10 ∷ 58 ∷ 48 ∷ 48 ∷ 48 ∷ 48 ∷ 48 ∷ 48 ∷ 48 ∷ 49 ∷ 70 ∷ 70 ∷ 10 ∷ []) (load 0 7)) [] 0 0 1 (store 2 (201 ∷ 202 ∷ 203 ∷ []))
+      ∷ dumps (over (zeros 93) (dump 0 7)) 92 0 1 (text 0 20)
+      ∷ [];
+  left = 0x2000000000000002800000000000000001c0000000000000003e000000000000 ∷ 0 ∷ [];
+}
+
 -- sizes and settings at their limits, over a table of zeros: 2 tells that place 1 was passed
 abbrev pub limits : List Row
 limits =
@@ -370,12 +434,16 @@ limits =
     ∷ limit 8 64 2 1 (plain (lock 0 1)) 1
     ∷ limit 8 64 2 1 (plain (unlock 0 1)) 1
     ∷ limit 8 64 2 1 (plain (revoke 0 0)) 1
+    ∷ limit 8 64 2 1 (over ended (load 0 0)) 1
+    ∷ limit 8 64 2 1 (over (zeros 56) (dump 0 0)) 1
+    ∷ limit 8 64 0 1 (over ended (load 0 0)) 2
+    ∷ limit 8 64 0 1 (over [] (dump 0 0)) 2
     ∷ []
 
 abbrev pub sessions : List Session
-sessions = fromReset ∷ handedOver ∷ handedOn ∷ goingRound ∷ lastNonces ∷ noneLeft ∷ []
+sessions = fromReset ∷ handedOver ∷ handedOn ∷ goingRound ∷ lastNonces ∷ noneLeft ∷ imaged ∷ []
 
--- bytes that are written, read and fetched through the root of 8 bytes
+-- bytes that are written, read and fetched, loaded and dumped, through the root of 8 bytes
 abbrev root8 : List ℕ
 root8 = 0x200000000000000100000000000000000000000000000000003a000000000000 ∷ 0 ∷ []
 
@@ -389,4 +457,8 @@ bytesMoved =
     (over (zeros 2) (access fetching 4 0) ∷ over (9 ∷ 9 ∷ []) (access reading 7 0) ∷ [])
     (203 ∷ 6 ∷ 9 ∷ 9 ∷ [])
     (1 ∷ 2 ∷ 201 ∷ 202 ∷ 203 ∷ 6 ∷ 7 ∷ 8 ∷ [])
+    ∷ moves (known 0 0 0 1) root8 (1 ∷ 2 ∷ 3 ∷ 4 ∷ 5 ∷ 6 ∷ 7 ∷ 8 ∷ [])
+    (over (58 ∷ 48 ∷ 52 ∷ 48 ∷ 48 ∷ 48 ∷ 48 ∷ 48 ∷ 48 ∷ 48 ∷ 66 ∷ 48 ∷ 67 ∷ 48 ∷ 68 ∷ 48 ∷ 69 ∷ 67 ∷ 65 ∷ 10 ∷ 58 ∷ 48 ∷ 50 ∷ 48 ∷ 48 ∷ 48 ∷ 50 ∷ 48 ∷ 48 ∷ 97 ∷ 98 ∷ 99 ∷ 100 ∷ 56 ∷ 52 ∷ 10 ∷ 58 ∷ 48 ∷ 50 ∷ 48 ∷ 48 ∷ 48 ∷ 48 ∷ 48 ∷ 52 ∷ 48 ∷ 48 ∷ 48 ∷ 55 ∷ 70 ∷ 51 ∷ 10 ∷ 58 ∷ 48 ∷ 50 ∷ 48 ∷ 48 ∷ 48 ∷ 48 ∷ 48 ∷ 52 ∷ 48 ∷ 48 ∷ 48 ∷ 48 ∷ 70 ∷ 65 ∷ 10 ∷ 58 ∷ 48 ∷ 49 ∷ 48 ∷ 48 ∷ 48 ∷ 55 ∷ 48 ∷ 48 ∷ 54 ∷ 51 ∷ 57 ∷ 53 ∷ 10 ∷ 58 ∷ 48 ∷ 48 ∷ 48 ∷ 48 ∷ 48 ∷ 48 ∷ 48 ∷ 49 ∷ 70 ∷ 70 ∷ 10 ∷ []) (load 0 0) ∷ over (zeros 58) (dump 0 0) ∷ [])
+    (58 ∷ 48 ∷ 52 ∷ 48 ∷ 48 ∷ 48 ∷ 48 ∷ 48 ∷ 48 ∷ 48 ∷ 66 ∷ 48 ∷ 67 ∷ 48 ∷ 68 ∷ 48 ∷ 69 ∷ 67 ∷ 65 ∷ 10 ∷ 58 ∷ 48 ∷ 50 ∷ 48 ∷ 48 ∷ 48 ∷ 50 ∷ 48 ∷ 48 ∷ 97 ∷ 98 ∷ 99 ∷ 100 ∷ 56 ∷ 52 ∷ 10 ∷ 58 ∷ 48 ∷ 50 ∷ 48 ∷ 48 ∷ 48 ∷ 48 ∷ 48 ∷ 52 ∷ 48 ∷ 48 ∷ 48 ∷ 55 ∷ 70 ∷ 51 ∷ 10 ∷ 58 ∷ 48 ∷ 50 ∷ 48 ∷ 48 ∷ 48 ∷ 48 ∷ 48 ∷ 52 ∷ 48 ∷ 48 ∷ 48 ∷ 48 ∷ 70 ∷ 65 ∷ 10 ∷ 58 ∷ 48 ∷ 49 ∷ 48 ∷ 48 ∷ 48 ∷ 55 ∷ 48 ∷ 48 ∷ 54 ∷ 51 ∷ 57 ∷ 53 ∷ 10 ∷ 58 ∷ 48 ∷ 48 ∷ 48 ∷ 48 ∷ 48 ∷ 48 ∷ 48 ∷ 49 ∷ 70 ∷ 70 ∷ 10 ∷ 58 ∷ 48 ∷ 50 ∷ 48 ∷ 48 ∷ 48 ∷ 48 ∷ 48 ∷ 52 ∷ 48 ∷ 48 ∷ 48 ∷ 48 ∷ 70 ∷ 65 ∷ 10 ∷ 58 ∷ 48 ∷ 56 ∷ 48 ∷ 48 ∷ 48 ∷ 48 ∷ 48 ∷ 48 ∷ 48 ∷ 66 ∷ 48 ∷ 67 ∷ 65 ∷ 66 ∷ 67 ∷ 68 ∷ 48 ∷ 53 ∷ 48 ∷ 54 ∷ 48 ∷ 55 ∷ 54 ∷ 51 ∷ 70 ∷ 52 ∷ 10 ∷ 58 ∷ 48 ∷ 48 ∷ 48 ∷ 48 ∷ 48 ∷ 48 ∷ 48 ∷ 49 ∷ 70 ∷ 70 ∷ 10 ∷ 0 ∷ 0 ∷ [])
+    (11 ∷ 12 ∷ 171 ∷ 205 ∷ 5 ∷ 6 ∷ 7 ∷ 99 ∷ [])
     ∷ []

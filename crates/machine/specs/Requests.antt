@@ -29,8 +29,11 @@ pub data Request : Type 0 where
   lock : (token task : ℕ) → Request
   unlock : (token task : ℕ) → Request
   revoke : (token encoding : ℕ) → Request
+  -- 02, paper 2: a text is read into the segment; the segment is written as such text
+  load : (token task : ℕ) → Request
+  dump : (token task : ℕ) → Request
 
--- a request and the buffer that it brings; only an access looks at its buffer
+-- a request and the buffer that it brings; only an access, a load and a dump look at it
 pub record Call : Type 0 where
   pub request : Request
   pub buffer : List ℕ
@@ -48,3 +51,5 @@ taskOf (release k) = 0
 taskOf (lock k u) = u
 taskOf (unlock k u) = u
 taskOf (revoke k c) = 0
+taskOf (load k u) = u
+taskOf (dump k u) = u

@@ -7,11 +7,11 @@ use mathlib.Core.List.{List, [], _∷_, List·Memᴰ}
 use Prim.Native.Nat.{ℕ}
 use lib.Dec.{eqb}
 use Rattle.machine.specs.Parts.{State}
-use Rattle.machine.specs.Requests.{access, Call, clone, create, derive, executeOnly, lock, merge, release, Request, reset, revoke, taskOf, unlock}
+use Rattle.machine.specs.Requests.{access, Call, clone, create, derive, dump, executeOnly, load, lock, merge, release, Request, reset, revoke, taskOf, unlock}
 use Rattle.machine.specs.Steps.{answer, Machine}
 use Rattle.machine.specs.Stops.{Check, checks, refusalNumber}
 
--- the rows of 01's table, by their numbers, that each request is judged by
+-- the rows of 01's table, and the refusals of 02, by their numbers, that each request is judged by
 abbrev pub row : Request → List ℕ
 row (reset k0 k1 ν) = 1 ∷ []
 row (access w k u) = 1 ∷ 2 ∷ 3 ∷ 4 ∷ 5 ∷ 7 ∷ 8 ∷ []
@@ -24,8 +24,10 @@ row (release k) = 1 ∷ 2 ∷ 3 ∷ 9 ∷ []
 row (lock k u) = 1 ∷ 2 ∷ 3 ∷ 4 ∷ 5 ∷ 7 ∷ []
 row (unlock k u) = 1 ∷ 2 ∷ 3 ∷ 4 ∷ 5 ∷ 9 ∷ []
 row (revoke k c) = 1 ∷ 2 ∷ 3 ∷ 4 ∷ 6 ∷ 11 ∷ []
+row (load k u) = 1 ∷ 12 ∷ 13 ∷ 2 ∷ 3 ∷ 4 ∷ 5 ∷ 7 ∷ 8 ∷ []
+row (dump k u) = 1 ∷ 2 ∷ 3 ∷ 4 ∷ 5 ∷ 7 ∷ 14 ∷ []
 
--- place 11 is judged for every request, after all others: a row with 11 at its end
+-- place 11 is judged for every request, after all others: a row with 11 at its end. A request that 14 may stop issues nothing, so that 14 is the last that does.
 abbrev pub ended : List ℕ → List ℕ
 ended [] = 11 ∷ []
 ended (n ∷ ns) = cond (eqb n 11) (n ∷ ns) (n ∷ ended ns)

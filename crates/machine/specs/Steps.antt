@@ -5,7 +5,8 @@ use mathlib.Core.List.{List, [], _∷_}
 use Prim.Native.Nat.{ℕ}
 use lib.ListN.{drop, length, take}
 use lib.Seq.{sets}
-use Rattle.machine.specs.Operations.{carried, Decision, Effect, Fill, fillFrom, Grant, grant, nothing, Reply, Store, unfilled}
+use Rattle.hex.specs.Written.{written}
+use Rattle.machine.specs.Operations.{carried, Decision, Effect, Fill, fillFrom, Grant, grant, nothing, Reply, Store, textFrom, unfilled}
 use Rattle.machine.specs.Parts.{State}
 use Rattle.machine.specs.Requests.{Call, Request}
 use Rattle.machine.specs.Stops.{Check, checks, Refusal, refusalBad, refusalNumber}
@@ -21,7 +22,7 @@ verdict (c ∷ cs) = cond (c .holds) (verdict cs) (stop (c .refusal))
 
 -- "A refusal returns its number and zero for each token; table, memory, state and the caller's buffer keep their bytes."
 abbrev pub turnedAway : Refusal → Reply
-turnedAway r = record { refusal = refusalNumber r; bad = refusalBad r; tokens = []; dropped = 0 }
+turnedAway r = record { refusal = refusalNumber r; bad = refusalBad r; tokens = []; dropped = 0; length = 0 }
 
 abbrev pub refused : State → List ℕ → Refusal → Decision
 refused s t r = record { state = s; table = t; reply = turnedAway r; issued = []; effect = nothing }
@@ -42,6 +43,7 @@ stored (w ∷ ws) memory = stored ws (sets memory (w .start) (w .bytes))
 abbrev pub filled : Fill → (memory buffer : List ℕ) → List ℕ
 filled unfilled memory b = b
 filled (fillFrom a n) memory b = take n (drop a memory)
+filled (textFrom a n) memory b = sets b 0 (written (take n (drop a memory)))
 
 -- an effect is carried out on memory and buffer
 abbrev pub memoryAfter : Effect → List ℕ → List ℕ
@@ -56,7 +58,8 @@ pub record Machine : Type 0 where
   pub table : List ℕ
   pub memory : List ℕ
 
--- "An answer is all that a request hands back beside the state: refusal with its place, tokens, drop's number, every byte of its buffer."
+-- "An answer is all that a request hands back beside the state: refusal with its place, tokens, drop's number, every byte of its buffer." 02, paper 2: and the
+-- length that it tells.
 pub record Answer : Type 0 where
   pub reply : Reply
   pub buffer : List ℕ

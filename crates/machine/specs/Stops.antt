@@ -6,18 +6,20 @@ use mathlib.Core.List.{List, [], _∷_, _++_}
 use Prim.Native.Nat.{ℕ, _+_, _%_, _^_}
 use lib.Dec.{eqb, leb, ltb}
 use lib.ListN.{length}
+use Rattle.hex.specs.Text.{farthest}
 use Rattle.layout.specs.declared.entry.Entry.{Entry}
-use Rattle.tokens.specs.Permissions.{within, X}
+use Rattle.tokens.specs.Permissions.{R, W, within, X}
 use Rattle.tokens.specs.Token.{named}
+use Rattle.machine.specs.Images.{mostText, piecesOf, spares, textFits}
 use Rattle.machine.specs.Issuing.{newNumber}
 use Rattle.machine.specs.Line.{ancestor, Bad, badOf, isDead, isIll, isLocked, itself, lineOf, lockedFrom, ownerOf}
 use Rattle.machine.specs.Operations.{book, Grant, grant, namedEntry, numberOf}
 use Rattle.machine.specs.Parts.{at, leastEntries, mostEntries, mostMemory, size, spent, State}
-use Rattle.machine.specs.Requests.{access, clone, create, derive, executeOnly, lock, merge, release, Request, reset, revoke, rightOf, unlock}
+use Rattle.machine.specs.Requests.{access, clone, create, derive, dump, executeOnly, load, lock, merge, release, Request, reset, revoke, rightOf, unlock}
 
 -- ---- the refusals
 
--- Each is named by its place in 01's table; 3 and 4 tell which entry was bad.
+-- Each is named by its place in 01's table, and after those by what 02 says of it; 3 and 4 tell which entry was bad.
 pub data Refusal : Type 0 where
   atRequest : Refusal
   atEntry : Refusal
@@ -30,8 +32,12 @@ pub data Refusal : Type 0 where
   atStanding : Refusal
   atNumbers : Refusal
   atNonces : Refusal
+  atRecord : Refusal
+  atChecksum : Refusal
+  atRoom : Refusal
 
--- the column "No." of 01's table
+-- the column "No." of 01's table; 02, paper 2: "12 a malformed record or ending", "13 a wrong checksum", "14 an output buffer too small or a written text above
+-- 65,536 bytes"
 abbrev pub refusalNumber : Refusal → ℕ
 refusalNumber atRequest = 1
 refusalNumber atEntry = 2
@@ -44,6 +50,9 @@ refusalNumber atBounds = 8
 refusalNumber atStanding = 9
 refusalNumber atNumbers = 10
 refusalNumber atNonces = 11
+refusalNumber atRecord = 12
+refusalNumber atChecksum = 13
+refusalNumber atRoom = 14
 
 -- the named entry is 1, an ancestor 2; a refusal that tells of no entry has 0
 abbrev pub badNumber : Bad → ℕ
@@ -62,6 +71,9 @@ refusalBad atBounds = 0
 refusalBad atStanding = 0
 refusalBad atNumbers = 0
 refusalBad atNonces = 0
+refusalBad atRecord = 0
+refusalBad atChecksum = 0
+refusalBad atRoom = 0
 
 -- what must hold, and the refusal that is given if it does not
 pub record Check : Type 0 where
@@ -121,6 +133,16 @@ transferFits b = leb 1 (length b) ∷ leb (length b) 4096 ∷ []
 -- "Reset takes a key and a first nonce (1 to 4,294,967,295)."
 abbrev pub firstNonceFits : ℕ → List Bool
 firstNonceFits ν = leb 1 ν ∷ ltb ν spent ∷ []
+
+-- 02, paper 2: "at most 65,536 bytes of text, else 1"
+abbrev pub textShort : List ℕ → Bool
+textShort b = leb (length b) mostText
+
+-- ---- 12 and 13, "both after place 1"
+
+-- The text is judged as a whole, "the earlier record first and 12 before 13 in one record": it comes to at most one of the two.
+abbrev pub textRead : List ℕ → List Check
+textRead b = need atRecord (spares 12 b) ∷ need atChecksum (spares 13 b) ∷ []
 
 -- ---- places 2 to 5: the entry, its line, the lock
 
@@ -199,7 +221,7 @@ noncesLeft s t g = need atNonces (leb (book s t g .state .next) spent)
 
 -- ---- the checks of each request
 
--- by their places: 1, what the request itself is judged for; 2 to 5, its tokens; 6 to 10, the rest
+-- by their places: 1, what the request itself is judged for; 2 to 5, its tokens, after 12 and 13; 6 to 10 and 14, the rest
 pub record Places : Type 0 where
   pub request : List Bool
   pub tokens : List Check
@@ -262,6 +284,23 @@ places m s t (unlock k u) b = record {
   rest = need atStanding (isLocked t (lineOf m t (numberOf k))) ∷ [];
 }
 places m s t (revoke k c) b = record { request = settings s t ++ (encodingFits c ∷ noOffset k ∷ []); tokens = live m t k; rest = need atKind (isDirect (namedEntry t k)) ∷ [] }
+-- 02, paper 2: "Loads and dumps [..] use the access checks without the transfer limit". "every record's bounds": all data lie inside if what ends last does; "a
+-- data record without bytes [..] can't be out of bounds".
+places m s t (load k u) b =
+    let e = namedEntry t k in
+    record {
+      request = settings s t ++ (taskFits u ∷ noOffset k ∷ textShort b ∷ []);
+      tokens = textRead b ++ reachable m t k u;
+      rest = rightsHeld W e ∷ endsInside (farthest (piecesOf b)) e ∷ [];
+    }
+-- A dump is of the whole segment, which has no bounds to pass; "14 [..], last of all".
+places m s t (dump k u) b =
+    let e = namedEntry t k in
+    record {
+      request = settings s t ++ (taskFits u ∷ noOffset k ∷ []);
+      tokens = reachable m t k u;
+      rest = rightsHeld R e ∷ needAll atRoom (textFits (e .length) b);
+    }
 
 -- "Checks run down this table." The sizes are judged for every request, and so is place 11: one that issues nothing needs no nonce.
 abbrev pub checks : ℕ → State → List ℕ → Request → List ℕ → List Check

@@ -5,7 +5,7 @@ use mathlib.Core.Bool.{true}
 use mathlib.Core.List.{List}
 use Prim.Native.Nat.{ℕ}
 use lib.ListN.{length}
-use Rattle.machine.specs.Lent.{AllBytes}
+use Rattle.bits.specs.Bytes.{AllBytes}
 use Rattle.machine.specs.Line.{isLocked, Line, lineOf, ownerOf}
 use Rattle.machine.specs.Operations.{namedEntry, numberOf}
 use Rattle.machine.specs.Parts.{at}

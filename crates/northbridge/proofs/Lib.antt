@@ -1,6 +1,2 @@
 pub mod CallLaws
-pub mod Demands
-pub mod Example
-pub mod Listed
-pub mod Secrecy
 pub mod WordLaws

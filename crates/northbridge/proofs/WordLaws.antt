@@ -89,7 +89,7 @@ beyond (suc n) o h =
     let other : o ≢ n = h .1 in
     omega arith
 
--- no request has a number above 12
-pub picked-none : (o k x u l m p c : ℕ) → 13 ≤ o → unknown ≡ picked o k x u l m p c
+-- no request has a number above 14
+pub picked-none : (o k x u l m p c : ℕ) → 15 ≤ o → unknown ≡ picked o k x u l m p c
 unfolding picked
 picked-none o k x u l m p c h = sym (List·getD-eq-default (requests k x u l m p c) unknown h)

@@ -9,7 +9,7 @@ use Rattle.bits.specs.Bytes.{lowBytes}
 use Rattle.bits.specs.SipHash.{word}
 use Rattle.machine.specs.Operations.{Reply}
 use Rattle.machine.specs.Parts.{State}
-use Rattle.machine.specs.Requests.{access, Call, clone, create, derive, executeOnly, fetching, lock, merge, reading, release, Request, reset, revoke, unlock, writing}
+use Rattle.machine.specs.Requests.{access, Call, clone, create, derive, dump, executeOnly, fetching, load, lock, merge, reading, release, Request, reset, revoke, unlock, writing}
 use Rattle.machine.specs.Steps as steps
 use Rattle.machine.specs.Steps.{Answer, Machine, step, turnedAway}
 use Rattle.machine.specs.Stops.{atRequest, refusalNumber}
@@ -29,7 +29,7 @@ pub data Asked : Type 0 where
   known : Request → Asked
   unknown : Asked
 
--- the requests in the order of their operations' numbers, 0 to 12; `release` is drop
+-- the requests in the order of their operations' numbers, 0 to 14; `release` is drop
 abbrev pub requests : (token second task length user permissions encoding : ℕ) → List Asked
 requests k x u l m p c =
     known (reset k x u)
@@ -45,6 +45,8 @@ requests k x u l m p c =
     ∷ known (lock k u)
     ∷ known (unlock k u)
     ∷ known (revoke k c)
+    ∷ known (load k u)
+    ∷ known (dump k u)
     ∷ []
 
 -- the first word picks the request, made of the words after it
@@ -70,11 +72,11 @@ stateBytes s = wordBytes (s .key0 ∷ s .key1 ∷ s .last ∷ s .next ∷ [])
 
 -- in bytes
 abbrev pub answerSize : ℕ
-answerSize = 40
+answerSize = 48
 
--- the refusal, its place (which entry was bad), two words for the tokens, zero where there is none, and drop's number
+-- the refusal, its place (which entry was bad), two words for the tokens, zero where there is none, drop's number, and the length that an answer tells
 abbrev pub replyWords : Reply → List ℕ
-replyWords r = r .refusal ∷ r .bad ∷ getD (r .tokens) 0 0 ∷ getD (r .tokens) 1 0 ∷ r .dropped ∷ []
+replyWords r = r .refusal ∷ r .bad ∷ getD (r .tokens) 0 0 ∷ getD (r .tokens) 1 0 ∷ r .dropped ∷ r .length ∷ []
 
 abbrev pub answerBytes : Reply → List ℕ
 answerBytes r = wordBytes (replyWords r)

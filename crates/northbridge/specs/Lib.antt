@@ -1,4 +1,2 @@
-pub mod Demands
-pub mod Example
 pub mod Exported
 pub mod Meanings

@@ -13,7 +13,7 @@ askedAs (Known q) = known (requestAs q)
 askedAs Unknown = unknown
 
 abbrev pub wordsAs : AnswerWords → List ℕ
-wordsAs r = r .refusal ∷ r .place ∷ r .first ∷ r .second ∷ r .dropped ∷ []
+wordsAs r = r .refusal ∷ r .place ∷ r .first ∷ r .second ∷ r .dropped ∷ r .length ∷ []
 
 -- what a call returned, with the slices as it left them
 abbrev pub left : ℕ → (state table memory buffer answer : List ℕ) → Exported

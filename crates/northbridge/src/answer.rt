@@ -10,7 +10,7 @@ ghost use Rattle.northbridge.specs.Exported.{answerBytes, answerSize, re
 ghost use Rattle.northbridge.specs.Meanings.{wordsAs};
 
 // In bytes.
-pub(crate) const ANSWER_SIZE: usize = 40;
+pub(crate) const ANSWER_SIZE: usize = 48;
 
 // The words of an answer. `place` tells which entry was bad.
 pub struct AnswerWords {
@@ -19,11 +19,12 @@ pub struct AnswerWords {
     pub first: u64,
     pub second: u64,
     pub dropped: u64,
+    pub length: u64,
 }
 
 // Two words for the tokens, zero where there is none.
 fn granted(tokens: Tokens, dropped: u64) -> AnswerWords
-    ensures { λ r. ⌜ (r .refusal ≡ 0) × (r .place ≡ 0) × (r .first ≡ getD (tokensAs tokens) 0 0) × (r .second ≡ getD (tokensAs tokens) 1 0) × (r .dropped ≡ dropped) ⌝ }
+    ensures { λ r. ⌜ (r .refusal ≡ 0) × (r .place ≡ 0) × (r .first ≡ getD (tokensAs tokens) 0 0) × (r .second ≡ getD (tokensAs tokens) 1 0) × (r .dropped ≡ dropped) × (r .length ≡ 0) ⌝ }
 {
     match tokens {
         Tokens::None => AnswerWords {
@@ -32,6 +33,7 @@ fn granted(tokens: Tokens, dropped: u64) -> AnswerWords
             first: 0,
             second: 0,
             dropped,
+            length: 0,
         },
         Tokens::One(first) => AnswerWords {
             refusal: 0,
@@ -39,6 +41,7 @@ fn granted(tokens: Tokens, dropped: u64) -> AnswerWords
             first,
             second: 0,
             dropped,
+            length: 0,
         },
         Tokens::Two(first, second) => AnswerWords {
             refusal: 0,
@@ -46,6 +49,7 @@ fn granted(tokens: Tokens, dropped: u64) -> AnswerWords
             first,
             second,
             dropped,
+            length: 0,
         },
     }
 }
@@ -55,6 +59,14 @@ fn words_of(reply: Reply) -> AnswerWords
 {
     match reply {
         Reply::Granted { tokens, dropped } => granted(tokens, dropped),
+        Reply::Filled { length } => AnswerWords {
+            refusal: 0,
+            place: 0,
+            first: 0,
+            second: 0,
+            dropped: 0,
+            length,
+        },
         Reply::Refused(why) => {
             let words = told(why);
             AnswerWords {
@@ -63,6 +75,7 @@ fn words_of(reply: Reply) -> AnswerWords
                 first: 0,
                 second: 0,
                 dropped: 0,
+                length: 0,
             }
         }
     }
@@ -74,6 +87,9 @@ pub(crate) fn write_answer(part: &mut [u8], reply: Reply) -> u64
     ensures { λ r. ⌜ (r ≡ replyAs reply .refusal) × (now (part .exit) ≡ answerBytes (replyAs reply)) ⌝ }
 {
     let w = words_of(reply);
-    put_words(part, &[w.refusal, w.place, w.first, w.second, w.dropped]);
+    put_words(
+        part,
+        &[w.refusal, w.place, w.first, w.second, w.dropped, w.length],
+    );
     w.refusal
 }

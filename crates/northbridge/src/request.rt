@@ -64,6 +64,8 @@ fn pick(
         10 => Asked::Known(Request::Lock { token, task }),
         11 => Asked::Known(Request::Unlock { token, task }),
         12 => Asked::Known(Request::Revoke { token, encoding }),
+        13 => Asked::Known(Request::Load { token, task }),
+        14 => Asked::Known(Request::Dump { token, task }),
         _ => Asked::Unknown,
     }
 }

@@ -13,17 +13,9 @@ use Rattle.table.specs.States.{stateAs}
 use Rattle.table.specs.declared.state.StateWords.{StateWords}
 use Rattle.rulings.specs.Rulings.{effectOn, handed, ruled, rulingOn}
 use Rattle.rulings.specs.declared.reply.Outcome.{Outcome}
+use Rattle.rulings.proofs.RulingLaws.{by-effect}
 use Rattle.accesses.specs.Ways.{Loads}
 use Rattle.operations.specs.Turns.{after, answered, before, callAs}
-
--- what holds of no effect, and of the effect of a grant, holds of the effect of a request
-by-effect : (P : Effect → Type 0) (m : ℕ) (s : State) (t : List ℕ) (q : Request) (b : List ℕ) → P nothing → P (grant m t q b .effect) → P (effectOn m s t q b)
-unfolding effectOn decide
-by-effect P m s t q b n g = go (verdict (checks m s t q b))
-  where
-    go : (v : Verdict) → P (settle v s t (grant m t q b) .effect)
-    go pass = g
-    go (stop r) = n
 
 -- a request whose checks and grant do not look at its buffer is decided without it
 record Unread (m : ℕ) (s : State) (t : List ℕ) (q : Request) (b : List ℕ) : Type 0 where

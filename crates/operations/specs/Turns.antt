@@ -13,7 +13,7 @@ use Rattle.accesses.specs.Ways.{wayAs}
 use Rattle.operations.specs.declared.serve.Accessing.{Accessing}
 use Rattle.operations.specs.declared.serve.Accessing.the-variants.{Other, Through}
 use Rattle.operations.specs.declared.serve.Request.{Request}
-use Rattle.operations.specs.declared.serve.Request.the-variants.{Clone, Create, Derive, Drop, ExecuteOnly, Fetch, Lock, Merge, Read, Reset, Revoke, Unlock, Write}
+use Rattle.operations.specs.declared.serve.Request.the-variants.{Clone, Create, Derive, Drop, Dump, ExecuteOnly, Fetch, Load, Lock, Merge, Read, Reset, Revoke, Unlock, Write}
 
 -- the request in the machine's terms, and the call that brings a buffer with it
 abbrev pub requestAs : Request → request.Request
@@ -30,6 +30,8 @@ requestAs (Drop k) = request.release k
 requestAs (Lock k u) = request.lock k u
 requestAs (Unlock k u) = request.unlock k u
 requestAs (Revoke k c) = request.revoke k c
+requestAs (Load k u) = request.load k u
+requestAs (Dump k u) = request.dump k u
 
 -- r tells the way of the request q, if it is an access
 abbrev pub Accesses : Accessing → Request → Type 0

@@ -1,5 +1,6 @@
 // The operations of the northbridge: methods of its state over the table and the memory.
 pub mod access;
+pub mod image;
 pub mod lock;
 pub mod reference;
 pub mod segment;

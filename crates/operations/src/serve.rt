@@ -2,12 +2,15 @@
 use crate::state::State;
 use accesses::access::Way;
 use accesses::access::access;
+use images::image::serve_dump;
+use images::image::serve_load;
 use rulings::reply::Outcome;
 ghost use mathlib.Core.Path.{_≡_};
 ghost use Rattle.machine.specs.Steps.{answer, step};
 ghost use Rattle.operations.specs.Turns.{Accesses, after, answered, before, callAs, requestAs};
 
-// A request with all that it carries. An access has its bytes in the buffer that is lent with it.
+// A request with all that it carries. An access has its bytes, a load and a dump their text, in the
+// buffer that is lent with it.
 pub enum Request {
     Reset {
         key0: u64,
@@ -69,6 +72,14 @@ pub enum Request {
         token: u64,
         encoding: u64,
     },
+    Load {
+        token: u64,
+        task: u64,
+    },
+    Dump {
+        token: u64,
+        task: u64,
+    },
 }
 
 // A request that is an access, with its way, or another one.
@@ -101,7 +112,7 @@ fn way_of(request: Request) -> Accessing
 }
 
 impl State {
-    // Serves any request by its own method.
+    // Serves any request by its own method; a load and a dump by what those do, as functions over one buffer.
     fn operate(
         mut self,
         request: Request,
@@ -142,6 +153,14 @@ impl State {
             Request::Lock { token, task } => self.lock(table, memory, token, task),
             Request::Unlock { token, task } => self.unlock(table, memory, token, task),
             Request::Revoke { token, encoding } => self.revoke(table, memory, token, encoding),
+            Request::Load { token, task } => {
+                let words = self.words;
+                serve_load(words, table, memory, buffer, token, task)
+            }
+            Request::Dump { token, task } => {
+                let words = self.words;
+                serve_dump(words, table, memory, buffer, token, task)
+            }
             Request::Create {
                 token,
                 task,

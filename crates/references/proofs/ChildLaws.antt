@@ -75,4 +75,4 @@ child-grants s t n o l p c e child parent i g t₁ t₂ r there up is given coun
   where
     -- what is handed back, where the child is left so
     left : Left → Ruling
-    left x = record { state = x .state; table = put (x .table) n (recounted e (i + 1)); reply = granted (x .tokens) 0 }
+    left x = record { state = x .state; table = put (x .table) n (recounted e (i + 1)); reply = granted (x .tokens) 0 0 }

@@ -216,11 +216,11 @@ module _ (m : ℕ) (s : State) (t : List ℕ) (k : ℕ) where
 
 module _ (m : ℕ) (s : StateWords) (t : List ℕ) (k : ℕ) (n : Named) (e : Entry) (b : Bool) (is : n ≡ named k) (there : e ≡ at t (n .number)) (lock : b ≡ isLocked t (lineOf m t (numberOf k))) where
   ruling : granting m (stateAs s) t (release k) []
-      ≡ record { state = stateAs s; table = cond (eqb (e .count) 1 && b) t (climbed (stateAs s) (suc (at t (n .number) .nonce)) t (n .number)); reply = granted [] (cond (eqb (e .count) 1 && not b) 1 0) }
+      ≡ record { state = stateAs s; table = cond (eqb (e .count) 1 && b) t (climbed (stateAs s) (suc (at t (n .number) .nonce)) t (n .number)); reply = granted [] (cond (eqb (e .count) 1 && not b) 1 0) 0 }
   unfolding granting climbed
   ruling =
-      (λ i. record { state = quiet .state i; table = b′ .table; reply = granted (quiet .tokens i) (g .dropped) })
-      ∙ ap (λ (t′ : List ℕ). record { state = stateAs s; table = t′; reply = granted [] (g .dropped) })
+      (λ i. record { state = quiet .state i; table = b′ .table; reply = granted (quiet .tokens i) (g .dropped) 0 })
+      ∙ ap (λ (t′ : List ℕ). record { state = stateAs s; table = t′; reply = granted [] (g .dropped) 0 })
       (by-both (λ ws t′. written 0 (opened (stateAs s) t) ws .table ≡ t′) (eqb (at t (numberOf k) .count) 1 && isLocked t (lineOf m t (numberOf k))) (λ h. refl) (λ h. refl))
       ∙ rw (lock, there, is)
     where

@@ -9,7 +9,7 @@ use Rattle.checks.specs.Holds.{requestHolds}
 use Rattle.checks.specs.Refusals.{stopAs}
 use Rattle.checks.specs.declared.refusal.Refusal as code
 use Rattle.checks.proofs.VerdictLaws.{all-hold, all-pass, all-stop, all-true, andThen, first-passes, first-stops, parts-pass, verdict-append}
-use Rattle.machine.specs.Operations.{book, grant, nothing}
+use Rattle.machine.specs.Operations.{book, Effect, grant, nothing}
 use Rattle.machine.specs.Parts.{spent, State}
 use Rattle.machine.specs.Requests.{Request}
 use Rattle.machine.specs.Steps.{decide, pass, settle, stop, Verdict, verdict}
@@ -123,6 +123,15 @@ module _ (m : ℕ) (s : State) (t : List ℕ) (q : Request) (b : List ℕ) where
   pub effect-pass : verdictOn m s t q b ≡ pass → effectOn m s t q b ≡ grantedEffect m t q b
   unfolding effectOn decide verdictOn grantedEffect
   effect-pass h = ap (λ (v : Verdict). settle v s t (grant m t q b) .effect) h
+
+-- what holds of no effect, and of the effect of a grant, holds of the effect of a request
+pub by-effect : (P : Effect → Type 0) (m : ℕ) (s : State) (t : List ℕ) (q : Request) (b : List ℕ) → P nothing → P (grant m t q b .effect) → P (effectOn m s t q b)
+unfolding effectOn decide
+by-effect P m s t q b n g = go (verdict (checks m s t q b))
+  where
+    go : (v : Verdict) → P (settle v s t (grant m t q b) .effect)
+    go pass = g
+    go (stop r) = n
 
 pub decided-stop : (m : ℕ) (s : StateWords) (t : List ℕ) (q : Request) (b : List ℕ) (why : code.Refusal) (r : Outcome) → r ≡ refusing s why → verdictOn m (stateAs s) t q b ≡ stopAs why
     → handed r t ≡ rulingOn m (stateAs s) t q b

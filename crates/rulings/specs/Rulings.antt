@@ -16,7 +16,7 @@ use Rattle.rulings.specs.declared.reply.Checked.{Checked}
 use Rattle.rulings.specs.declared.reply.Checked.the-variants.{Pass, Stop}
 use Rattle.rulings.specs.declared.reply.Outcome.{Outcome}
 use Rattle.rulings.specs.declared.reply.Reply.{Reply}
-use Rattle.rulings.specs.declared.reply.Reply.the-variants.{Granted, Refused}
+use Rattle.rulings.specs.declared.reply.Reply.the-variants.{Filled, Granted, Refused}
 use Rattle.rulings.specs.declared.reply.Tokens.{Tokens}
 use Rattle.rulings.specs.declared.reply.Tokens.the-variants.{None, One, Two}
 
@@ -28,7 +28,8 @@ tokensAs (One a) = a ∷ []
 tokensAs (Two a b) = a ∷ b ∷ []
 
 abbrev pub replyAs : Reply → machine.Reply
-replyAs (Granted ks d) = granted (tokensAs ks) d
+replyAs (Granted ks d) = granted (tokensAs ks) d 0
+replyAs (Filled n) = granted [] 0 n
 replyAs (Refused why) = turnedAway (refusalAs why)
 
 -- a refusal, a grant that gives no token, and those that give one and two, as the code hands them back
@@ -44,9 +45,13 @@ givingOne s a = record { state = s; reply = Granted (One a) 0 }
 abbrev pub givingTwo : StateWords → ℕ → ℕ → Outcome
 givingTwo s a b = record { state = s; reply = Granted (Two a b) 0 }
 
+-- and one that fills so much of the buffer
+abbrev pub fillingSo : StateWords → ℕ → Outcome
+fillingSo s n = record { state = s; reply = Filled n }
+
 -- ---- verdicts
 
--- on a request; on its places 1 to 5; on its tokens, places 2 to 5; and on what is left then, places 6 to 11
+-- on a request; on its places 1 to 5; on its tokens, places 2 to 5, after a load's 12 and 13; and on what is left then, places 6 to 11 and 14
 unfoldable pub verdictOn : ℕ → State → List ℕ → Request → List ℕ → Verdict
 verdictOn m s t q b = verdict (checks m s t q b)
 

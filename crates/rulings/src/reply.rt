@@ -12,10 +12,11 @@ pub enum Tokens {
     Two(u64, u64),
 }
 
-// An answer but for its buffer: a granted request has tokens and drop's number, a refused one its
-// refusal.
+// An answer but for its buffer: a granted request has tokens and drop's number, or the length of what
+// it put at the buffer's front (a load puts nothing there); a refused one has its refusal.
 pub enum Reply {
     Granted { tokens: Tokens, dropped: u64 },
+    Filled { length: u64 },
     Refused(Refusal),
 }
 
@@ -79,6 +80,16 @@ pub fn giving_two(s: StateWords, first: u64, second: u64) -> Outcome
     }
 }
 
+// A granted request that puts so many bytes at the front of the buffer.
+pub fn filling(s: StateWords, length: u64) -> Outcome
+    ensures { λ r. ⌜ r ≡ ruling.fillingSo s length ⌝ }
+{
+    Outcome {
+        state: s,
+        reply: Reply::Filled { length },
+    }
+}
+
 // The refusal's number: 0 granted, else 01's number.
 pub fn refusal_of(reply: Reply) -> u64
     ensures { λ r. ⌜ r ≡ ruling.replyAs reply .refusal ⌝ }
@@ -88,6 +99,7 @@ pub fn refusal_of(reply: Reply) -> u64
             tokens: _,
             dropped: _,
         } => 0,
+        Reply::Filled { length: _ } => 0,
         Reply::Refused(why) => {
             let words = told(why);
             words.number

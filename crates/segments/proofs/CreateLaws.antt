@@ -160,7 +160,7 @@ module _ (m : ℕ) (s : StateWords) (t : List ℕ) (k u l x p c : ℕ) (n : Name
   unfolding granting
   create-whole all a t₂ gave freed done =
       rw (done, freed)
-      (ap (λ (y : Left). record { state = y .state; table = vacated (y .table) (n .number); reply = granted (y .tokens) 0 }) gave
+      (ap (λ (y : Left). record { state = y .state; table = vacated (y .table) (n .number); reply = granted (y .tokens) 0 0 }) gave
       ∙ rw (cut, there, is, eq-eqb l (namedEntry t k .length) (rw here at all)))
 
   pub create-rest : (l ≡ e .length → ⊥) → (rest : Entry) (b : IssuedTwo) → rest ≡ restOf e l 0
@@ -169,5 +169,5 @@ module _ (m : ℕ) (s : StateWords) (t : List ℕ) (k u l x p c : ℕ) (n : Name
   unfolding granting
   create-rest some rest b over left done =
       rw done
-      (ap (λ (y : Left). record { state = y .state; table = y .table; reply = granted (y .tokens) 0 }) left
+      (ap (λ (y : Left). record { state = y .state; table = y .table; reply = granted (y .tokens) 0 0 }) left
       ∙ rw (over, cut, there, is, ne-eqb l (namedEntry t k .length) (rw here at some)))

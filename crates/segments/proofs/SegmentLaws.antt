@@ -17,4 +17,4 @@ four-hold a b c d x y = both-hold a b _ y ∙ both-hold (a && b) c _ y ∙ both-
 
 -- what is handed back of what the writes left, where nothing is dropped
 abbrev pub leaving : Left → Ruling
-leaving l = record { state = l .state; table = l .table; reply = granted (l .tokens) 0 }
+leaving l = record { state = l .state; table = l .table; reply = granted (l .tokens) 0 0 }

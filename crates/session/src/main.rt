@@ -45,6 +45,7 @@ fn token_in(r: Outcome) -> u64 {
             Tokens::One(token) => token,
             Tokens::Two(token, _) => token,
         },
+        Reply::Filled { length: _ } => 0,
         Reply::Refused(_) => 0,
     }
 }

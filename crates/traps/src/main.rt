@@ -23,6 +23,7 @@ fn first_token(r: Outcome) -> u64 {
             Tokens::One(token) => token,
             Tokens::Two(token, _) => token,
         },
+        Reply::Filled { length: _ } => 0,
         Reply::Refused(_) => 0,
     }
 }
@@ -30,6 +31,7 @@ fn first_token(r: Outcome) -> u64 {
 fn drop_number(reply: Reply) -> u64 {
     match reply {
         Reply::Granted { tokens: _, dropped } => dropped,
+        Reply::Filled { length: _ } => 0,
         Reply::Refused(_) => 0,
     }
 }

@@ -7,7 +7,7 @@ use Prim.Native.Nat.{ℕ, _<_}
 use native.Mathlib.Omega.{arith}
 use lib.ListN.{getD, length-set}
 use lib.Seq.{getD-set-other}
-use Rattle.bits.specs.Bytes.{bytes, lowBytes, lowNumber, number}
+use Rattle.bits.specs.Bytes.{AllBytes, bytes, lowBytes, lowNumber, number}
 use Rattle.layout.specs.Entry.{directNumber, directOf, entryNumber, entryOf, indirectNumber, indirectOf}
 use Rattle.layout.specs.Form.{illFormed}
 use Rattle.tokens.specs.Permissions.{within}
@@ -20,7 +20,7 @@ use Rattle.machine.specs.Depth.{Bounded, climbMeets, Depth, dropMeets, lineMeet
 use Rattle.machine.specs.FromReset.{FromReset}
 use Rattle.machine.specs.Issuing.{passOver, seek}
 use Rattle.machine.specs.Line.{walk}
-use Rattle.machine.specs.Lent.{AllBytes, LentBytes}
+use Rattle.machine.specs.Lent.{LentBytes}
 use Rattle.machine.specs.Unchanged.{HeldDrop, LockAgain}
 use Rattle.machine.specs.WholeDerive.{deriveCall, Parts, PassedOn, Whole}
 use Rattle.machine.specs.Writes.{Name, tokenFor}
@@ -28,7 +28,7 @@ use Rattle.machine.specs.Parts.{at, cleared, put, size}
 use Rattle.machine.specs.Requests.{Call, reading}
 use Rattle.machine.specs.Steps.{Answer, answer, decide, Machine, run, step}
 use Rattle.uses.specs.Uses.{before, changed, child, derives, drops, First, first, listOf, locks7, passes, Premises, read, readPassed, reset1, revokes, rootName, single}
-use Rattle.machine.proofs.ByteLaws.{bytes-zeros}
+use Rattle.bits.proofs.ByteLists.{bytes-zeros}
 use Rattle.machine.proofs.Depth.{depth}
 use Rattle.machine.proofs.FromReset.{from-reset}
 use Rattle.machine.proofs.Lent.{bytes-stay}

@@ -9,9 +9,9 @@ use crate::{wild, worlds};
 
 /// A handed-over line, whole or with one fault in it.
 pub fn play(player: &mut Player) {
-    let entries = match player.dice.below(2) {
-        0 => ENTRIES,
-        _ => player.dice.between(3, 400) as usize,
+    let entries = match player.dice.below(3) {
+        0 => player.dice.between(3, 400) as usize,
+        _ => ENTRIES,
     };
     let count = player.dice.one_of(&[1, 1, 2]);
     let mut world = worlds::line(player, entries, 64, count);

@@ -36,8 +36,22 @@ fn with_fault(player: &mut Player, fault: u64) {
     wild::play(player, 6);
 }
 
-/// A line with low counts, perhaps with one fault, from which drops climb.
+/// Some lines with low counts, from which drops climb.
 pub fn climbs(player: &mut Player) {
+    for _ in 0..CLIMBS {
+        if player.over() {
+            return;
+        }
+        climb(player);
+    }
+    wild::play(player, 6);
+}
+
+/// How many lines such a session has.
+const CLIMBS: usize = 4;
+
+/// A line with low counts, perhaps with one fault.
+fn climb(player: &mut Player) {
     let entries = player.dice.between(2, 9) as usize;
     let mut world = worlds::line(player, entries, 64, 1);
     for number in 0..entries {
@@ -57,7 +71,6 @@ pub fn climbs(player: &mut Player) {
         let token = player.token(number);
         player.simple(Operation::Drop, token);
     }
-    wild::play(player, 6);
 }
 
 /// How many faults `spoil` knows.

@@ -5,6 +5,7 @@ mod bits;
 mod counts;
 mod deep;
 mod encodings;
+mod images;
 mod large;
 mod lines;
 mod lockable;
@@ -59,7 +60,14 @@ pub const ALL: &[Kind] = &[
     kind("whole", 60, whole::play, "create of a whole segment, of the root's, and what is after"),
     kind("sums", 60, sums::play, "lengths and offsets whose sums lie at or beyond a limit"),
     kind("encodings", 60, encodings::play, "each token in all encodings, one bit off, with offset"),
-    kind("operations", 10, operations::play, "operations above 12"),
+    kind("operations", 10, operations::play, "operations above 14"),
+    kind("images", 80, images::play, "loads of right and wrong HEX text, and dumps"),
+    kind(
+        "limits",
+        3,
+        images::limits,
+        "accesses, loads and dumps of the most bytes and more; pages",
+    ),
     kind("revokes", 60, revokes::play, "segments full of bytes, revoked beside their neighbours"),
     kind("rubbish", 80, rubbish::play, "tables, states and requests of random bytes"),
     kind("bits", 12, bits::play, "each bit of an entry flipped, one at a time, in a live table"),

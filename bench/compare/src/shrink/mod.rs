@@ -45,6 +45,7 @@ impl Shrinker<'_> {
         self.simpler_words();
         self.smaller_buffers();
         self.leave_out_links();
+        self.leave_out_givers();
         self.leave_out_several();
         self.simpler_entries();
     }

@@ -1,6 +1,9 @@
 //! Fewer requests: runs of them left out, and then two or three that need each other.
 
+use bridge::Operation;
+
 use super::shrinker::Shrinker;
+use crate::draft::{Draft, Part, Source};
 
 /// Of at most so many requests every two are tried together, and every three.
 const PAIRS: usize = 48;
@@ -38,6 +41,16 @@ impl Shrinker<'_> {
         }
     }
 
+    /// Leaves out a request that gave tokens, or a reset: those that went through them go through what
+    /// was given last before each of them.
+    pub fn leave_out_givers(&mut self) {
+        for at in (1..self.draft.parts.len()).rev() {
+            if self.draft.parts.get(at).is_some_and(gives) {
+                self.take(chained_without(&self.draft, at));
+            }
+        }
+    }
+
     /// Leaves out two requests that stand apart, or three: such as a lock and its unlock, of which
     /// neither can be left out alone.
     pub fn leave_out_several(&mut self) {
@@ -53,6 +66,30 @@ impl Shrinker<'_> {
             self.take(draft)
         })
     }
+}
+
+/// Whether a request gives tokens, the root's among them.
+fn gives(part: &Part) -> bool {
+    part.is_reset() || Operation::of(part.request.operation).is_some_and(Operation::issues)
+}
+
+/// A draft without a giver; behind it each token of its is the first one that was given last.
+fn chained_without(draft: &Draft, at: usize) -> Draft {
+    let mut draft = draft.clone();
+    let gone = draft.parts.remove(at);
+    let mut last = draft.parts[..at].iter().rfind(|part| gives(part)).map(|part| part.name);
+    for part in &mut draft.parts[at..] {
+        let its = match part.token {
+            Source::Given { part: giver, .. } => giver == gone.name,
+            Source::Word => part.request.token == 0 && gone.is_reset(),
+        };
+        if let Some(giver) = last.filter(|_| its) {
+            let (encoding, offset) = (0, 0);
+            part.token = Source::Given { part: giver, second: false, encoding, offset, flip: 0 };
+        }
+        last = if gives(part) { Some(part.name) } else { last };
+    }
+    draft
 }
 
 fn pairs(length: usize) -> Vec<Vec<usize>> {

@@ -1,6 +1,6 @@
 //! Simpler requests: their tokens, their other words, their buffers.
 
-use bridge::{Operation, Words};
+use bridge::{Buffer, Operation, Words};
 
 use super::shrinker::Shrinker;
 use super::simpler::smaller;
@@ -76,8 +76,29 @@ impl Shrinker<'_> {
     pub fn smaller_buffers(&mut self) {
         let mut at = 0;
         while at < self.draft.parts.len() {
+            if is_text(&self.draft, at) {
+                self.fewer_lines(at);
+            }
             self.smaller_buffer(at);
             at += 1;
+        }
+    }
+
+    /// Leaves out runs of a text's lines, long ones first.
+    fn fewer_lines(&mut self, at: usize) {
+        let mut run = lines(&self.draft, at).len().next_power_of_two();
+        while run > 0 {
+            let mut end = lines(&self.draft, at).len();
+            while end > 0 {
+                let start = end.saturating_sub(run);
+                let mut left = lines(&self.draft, at);
+                left.drain(start..end.min(left.len()));
+                let mut draft = self.draft.clone();
+                draft.parts[at].buffer = left.concat();
+                self.change(draft);
+                end = start.min(lines(&self.draft, at).len());
+            }
+            run /= 2;
         }
     }
 
@@ -98,6 +119,18 @@ impl Shrinker<'_> {
             self.take(draft);
         }
     }
+}
+
+/// Whether a request is lent HEX text.
+fn is_text(draft: &Draft, at: usize) -> bool {
+    let operation = draft.parts.get(at).and_then(|part| Operation::of(part.request.operation));
+    operation.is_some_and(|operation| operation.buffer() == Buffer::Text)
+}
+
+/// The lines of a request's buffer; none if there no longer is such a request.
+fn lines(draft: &Draft, at: usize) -> Vec<Vec<u8>> {
+    let buffer = draft.parts.get(at).map_or(&[][..], |part| &part.buffer);
+    buffer.split_inclusive(|byte| *byte == b'\n').map(<[u8]>::to_vec).collect()
 }
 
 /// Where a request's first or second token comes from, if there still is such a request.

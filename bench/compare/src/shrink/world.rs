@@ -23,15 +23,10 @@ impl Shrinker<'_> {
         }
         let State { key: [token, second], next_nonce, .. } = self.draft.world.state;
         let operation = Operation::Reset as u64;
-        let nonces = [next_nonce, 1];
-        for task in nonces {
-            let mut draft = self.draft.clone();
+        for task in [next_nonce, 1] {
             let request = Words { operation, token, second, task, ..Words::default() };
-            let name = draft.parts.iter().map(|part| part.name + 1).max().unwrap_or(0);
-            let (token, second) = (Source::Word, Source::Word);
-            draft.parts.insert(0, Part { name, request, buffer: Vec::new(), token, second });
-            draft.world = World::zeros(draft.world.table.len(), draft.world.memory.len());
-            if self.take(draft) {
+            let draft = after(&self.draft, request);
+            if self.take(draft.clone()) || self.take(through_root(draft)) {
                 return;
             }
         }
@@ -202,6 +197,29 @@ impl Shrinker<'_> {
         }
         self.take(draft);
     }
+}
+
+/// A draft over zeros that begins with a request.
+fn after(draft: &Draft, request: Words) -> Draft {
+    let mut draft = draft.clone();
+    let name = draft.parts.iter().map(|part| part.name + 1).max().unwrap_or(0);
+    let (token, second) = (Source::Word, Source::Word);
+    draft.parts.insert(0, Part { name, request, buffer: Vec::new(), token, second });
+    draft.world = World::zeros(draft.world.table.len(), draft.world.memory.len());
+    draft
+}
+
+/// The same, each request behind the first through the token that was given last, the root's at first.
+fn through_root(mut draft: Draft) -> Draft {
+    let mut last = Source::Word;
+    for part in draft.parts.iter_mut().skip(1) {
+        (part.token, part.request.token) = (last, 0);
+        if Operation::of(part.request.operation).is_some_and(Operation::issues) {
+            let (second, encoding, offset, flip) = (false, 0, 0, 0);
+            last = Source::Given { part: part.name, second, encoding, offset, flip };
+        }
+    }
+    draft
 }
 
 fn rename_parent(table: &mut [u8], number: usize, rename: impl Fn(u64) -> u64) {

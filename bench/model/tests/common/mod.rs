@@ -27,16 +27,18 @@ impl Rig {
     }
 
     /// Serves one request, and sees to it that a refusal changes nothing and
-    /// carries neither token nor number.
+    /// carries neither token nor number, and that only a dump tells a length.
     pub fn ask_with(&mut self, request: Request, buffer: &mut [u8]) -> Answer {
         let before = (self.clone(), buffer.to_vec());
         let answer = serve(request, &mut self.state, &mut self.table, &mut self.memory, buffer);
-        assert!(answer.refusal <= 11);
+        assert!(answer.refusal <= 14);
         if answer.refusal != 0 {
             assert_eq!(before, (self.clone(), buffer.to_vec()));
             assert_eq!((answer.first, answer.second, answer.dropped), (0, 0, 0));
         }
         assert_eq!(answer.place != 0, matches!(answer.refusal, 3 | 4));
+        let dumped = request.operation == DUMP && answer.refusal == 0;
+        assert_eq!(answer.length != 0, dumped);
         answer
     }
 
@@ -104,6 +106,27 @@ impl Rig {
 
     pub fn unlock(&mut self, token: u64, task: u64) -> u64 {
         self.ask(Request { operation: UNLOCK, token, task, ..Request::default() }).refusal
+    }
+
+    pub fn load(&mut self, token: u64, text: &[u8], task: u64) -> u64 {
+        let mut buffer = text.to_vec();
+        let request = Request { operation: LOAD, token, task, ..Request::default() };
+        let refusal = self.ask_with(request, &mut buffer).refusal;
+        assert_eq!(buffer, text);
+        refusal
+    }
+
+    /// The text in a buffer of this length, whose other bytes stay.
+    pub fn dump(&mut self, token: u64, room: usize, task: u64) -> Result<Vec<u8>, u64> {
+        let mut buffer = vec![0xB5; room];
+        let request = Request { operation: DUMP, token, task, ..Request::default() };
+        let answer = self.ask_with(request, &mut buffer);
+        if answer.refusal != 0 {
+            return Err(answer.refusal);
+        }
+        let rest = buffer.split_off(answer.length as usize);
+        assert!(rest.iter().all(|&byte| byte == 0xB5));
+        Ok(buffer)
     }
 
     /// A field of an entry by its place in Table 2, from the top bit.
@@ -186,6 +209,18 @@ impl Rig {
     pub fn token(&self, number: usize) -> u64 {
         self.tag(number) << 46 | (number as u64) << 32
     }
+}
+
+/// A record of Intel HEX with its checksum.
+pub fn record(kind: u8, address: u16, data: &[u8]) -> Vec<u8> {
+    let mut bytes = vec![data.len() as u8];
+    bytes.extend(address.to_be_bytes());
+    bytes.push(kind);
+    bytes.extend(data);
+    let sum = bytes.iter().fold(0, |sum: u8, &byte| sum.wrapping_add(byte));
+    bytes.push(sum.wrapping_neg());
+    let digits: String = bytes.iter().map(|byte| format!("{byte:02X}")).collect();
+    format!(":{digits}\n").into_bytes()
 }
 
 /// A small generator of numbers.

@@ -20,8 +20,8 @@ nb compare [--requests N] [--seed S] [--against COMMAND] [--wait SECONDS] [--kin
            [--guard before|behind] [--coverage]
 
 Plays random sessions on the proved code and on the model together. After each request it compares
-refusal with place, tokens, drop's number, state, and every byte of table, memory and buffer; and a
-refused request must leave all as it was. At a difference it tells the request that showed it, and
+refusal with place, tokens, drop's number, the length of a dump's text, state, and every byte of table,
+memory and buffer; and a refused request must leave all as it was. At a difference it tells the request that showed it, and
 shrinks the session to a short one that still differs in a fresh process, printed as 'nb replay'
 reads it, with what the proved code answers. If it does not come again there, it says so.
 

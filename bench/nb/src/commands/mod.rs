@@ -1,6 +1,8 @@
 //! The commands, one module each.
 
 mod compare;
+mod dump;
+mod load;
 mod record;
 mod replay;
 mod search;
@@ -19,6 +21,8 @@ pub const COMMANDS: &[&Command] = &[
     &serve::COMMAND,
     &record::COMMAND,
     &search::COMMAND,
+    &load::COMMAND,
+    &dump::COMMAND,
     &time::COMMAND,
     &stack::COMMAND,
 ];

@@ -27,8 +27,8 @@ nb record --stored DIR
 nb record --list
 
 Asks the requests of a session file, and prints the session with every result as the proved code
-gives it: refusal and place, tokens, drop's number, the buffer, and each byte of state, table and
-memory that a request changed. Comments and names stay. What the file expects must come true. '-'
+gives it: refusal and place, tokens, drop's number, the length of a dump's text, the buffer, and each
+byte of state, table and memory that a request changed. Comments and names stay. What the file expects must come true. '-'
 reads the standard input.
 
     --stored DIR     writes the set of conformance sessions to DIR, one file each; DIR is made if it

@@ -42,8 +42,8 @@ and no more. docs/SESSIONS.md describes the files. '-' reads the standard input.
     --by WHO             who answers: 'proved', the library (as long as nothing is said), or 'model',
                          the second implementation
     --against COMMAND    a simulator answers: a command for the shell that speaks the line protocol
-                         of 'nb serve' on its standard input and output. An access of more bytes
-                         than a line of it holds, 8192, is not asked: it can only be refused
+                         of 'nb serve' on its standard input and output. An access or a load of more
+                         bytes than a line of it holds, 69632, is not asked: it can only be refused
     --wait SECONDS       how long the command may take for an answer (10)
 
 For example:

@@ -4,10 +4,11 @@ use std::ops::Range;
 
 use super::json::Json;
 use crate::answer::answer_text;
+use crate::hex;
 use crate::map::{Map, Row};
 use crate::report::{difference_text, request_text};
 use crate::stop::{named, stop, Stop};
-use bridge::{Check, Operation};
+use bridge::{Buffer, Operation};
 use session::entry::{Entry, Field};
 use session::play::{NoAnswer, Played};
 use session::text::Ask;
@@ -18,13 +19,11 @@ const WIDE: usize = 200;
 
 /// A request and what came of it.
 pub fn request_fields(ask: &Ask, played: &Result<Played, NoAnswer>) -> Vec<(&'static str, Json)> {
-    let checks = Operation::of(ask.words.operation).map_or_else(Vec::new, |operation| {
-        Check::all().filter(|check| operation.stops_at(*check)).collect()
-    });
+    let checks = Operation::of(ask.words.operation).map_or(&[][..], Operation::checks);
     let mut fields = vec![
         ("line", Json::Number(ask.line as u64)),
         ("request", Json::text(request_text(ask, WIDE))),
-        ("checks", Json::list(checks, |check| Json::Number(check as u64))),
+        ("checks", Json::list(checks, |check| Json::Number(*check as u64))),
     ];
     match played {
         Ok(played) => fields.extend(answer_fields(ask, played)),
@@ -51,15 +50,21 @@ fn stop_json(stop: Stop) -> Json {
     Json::Fields(vec![("number", Json::Number(number)), ("why", Json::some(why, Json::Text))])
 }
 
-/// The bytes that an access asks for, if its number is one of the table.
+/// The bytes that a request reads or writes, if its number is one of the table: those of an access, of
+/// a load's data, or all for a dump.
 fn touched(played: &Played) -> Option<Range<u64>> {
     let Played { request, before, buffer, .. } = played;
-    Operation::of(request.operation).filter(|operation| operation.is_access())?;
     let token = Token::unpack(request.token);
     let entry = Entry::at(&before.table, usize::try_from(token.number).ok()?)?;
     entry.place(Field::Base)?;
-    let start = entry.field(Field::Base) + token.offset;
-    Some(start..start + buffer.len() as u64)
+    let reach = match Operation::of(request.operation)?.buffer() {
+        Buffer::Unused => return None,
+        Buffer::Filled | Buffer::Brought => token.offset..token.offset + buffer.len() as u64,
+        Buffer::Text => hex::read(buffer).ok()?.reach?,
+        Buffer::Front => 0..entry.length(),
+    };
+    let base = entry.field(Field::Base);
+    Some(base + reach.start..base + reach.end)
 }
 
 /// The map; of its rows only those that differ from the ones before, and how many stay at the front

@@ -18,13 +18,13 @@ mod script;
 mod state;
 mod words;
 
-pub use bytes::{text as bytes_text, FILL};
+pub use bytes::FILL;
 pub use change::changes;
 pub use error::Error;
 pub use parse::parse;
-pub use print::{print, print_request, print_script, print_standing, print_with};
+pub use print::{buffer_text, print, print_request, print_script, print_standing, print_with};
 pub use script::{
     Ask, Comments, EntryLine, Expected, Names, Script, Sizes, Standing, Start, Unresolved, Word,
 };
 pub use state::StatedState;
-pub use words::{number, number_text, permissions_text, token_text};
+pub use words::{number, number_text, permissions_text, token, token_text};

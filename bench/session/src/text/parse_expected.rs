@@ -79,9 +79,11 @@ fn result(cursor: &mut Cursor, word: &str, expected: &mut Expected) -> Result<()
         "second" if expected.second.is_none() => expected.second = Some(literal(cursor)?),
         "first" | "second" => return Err(cursor.error_before(TWICE)),
         "number" => expected.number = Some(cursor.number("drop's number")?),
+        "length" => expected.length = Some(cursor.number("the length of a dump's text")?),
         "buffer" => expected.buffer = Some(bytes::read(cursor)?),
         _ => {
-            let places = "'as', 'first', 'second', 'number' or 'buffer', or at the front \
+            let places =
+                "'as', 'first', 'second', 'number', 'length' or 'buffer', or at the front \
                  'named' or 'ancestor'";
             return Err(cursor.error_before(places));
         }
@@ -90,7 +92,7 @@ fn result(cursor: &mut Cursor, word: &str, expected: &mut Expected) -> Result<()
 }
 
 fn is_result(word: &str) -> bool {
-    matches!(word, "first" | "second" | "number" | "buffer" | "as")
+    matches!(word, "first" | "second" | "number" | "length" | "buffer" | "as")
 }
 
 /// A token that is no name.

@@ -74,8 +74,8 @@ fn operation(cursor: &mut Cursor, names: &HashSet<String>) -> Result<Ask, Error>
 /// length stands, the error is handed back, for the case that no buffer is given either.
 fn transfer(cursor: &mut Cursor, ask: &mut Ask) -> Result<Option<Error>, Error> {
     match Operation::of(ask.words.operation).map(Operation::buffer) {
-        Some(Buffer::Brought) => ask.buffer = bytes::read(cursor)?,
-        Some(Buffer::Filled) => {
+        Some(Buffer::Brought | Buffer::Text) => ask.buffer = bytes::read(cursor)?,
+        Some(Buffer::Filled | Buffer::Front) => {
             let is_number = |word| words::number(word).is_some() || words::is_too_wide(word);
             if !cursor.peek().is_some_and(is_number) {
                 return Ok(Some(cursor.error("the number of bytes, or 'buffer' and the bytes")));

@@ -82,7 +82,8 @@ fn push_ask(text: &mut String, ask: &Ask, request: &str, width: usize) {
     text.push_str(request);
     if let Some(expected) = &ask.expected {
         let blanks = width.saturating_sub(request.len());
-        let _ = write!(text, "{:blanks$} -> {}", "", expected_text(expected));
+        let expected = expected_text(ask.words.operation, expected);
+        let _ = write!(text, "{:blanks$} -> {expected}", "");
     }
     push_end(text, &ask.comments);
     for line in &ask.standing {
@@ -155,9 +156,9 @@ fn is_zero(word: &Word) -> bool {
 
 /// What is transferred, where it stands in front: the bytes, or how many.
 fn transferred(ask: &Ask, operation: Option<Operation>) -> String {
-    match operation.map(Operation::buffer) {
-        Some(Buffer::Filled) if is_filled(ask) => format!(" {}", ask.buffer.len()),
-        Some(Buffer::Brought) => format!(" {}", bytes::text(&ask.buffer)),
+    match operation.map_or(Buffer::Unused, Operation::buffer) {
+        buffer if buffer.is_written() && is_filled(ask) => format!(" {}", ask.buffer.len()),
+        buffer if buffer.is_brought() => format!(" {}", own_buffer_text(ask)),
         _ => String::new(),
     }
 }
@@ -168,15 +169,27 @@ fn is_filled(ask: &Ask) -> bool {
 
 /// The buffer, where it does not stand in front.
 fn trailing_buffer(ask: &Ask, operation: Option<Operation>) -> String {
-    let in_front = match operation.map(Operation::buffer) {
-        Some(Buffer::Filled) => is_filled(ask),
-        Some(Buffer::Brought) => true,
-        Some(Buffer::Unused) | None => ask.buffer.is_empty(),
+    let in_front = match operation.map_or(Buffer::Unused, Operation::buffer) {
+        Buffer::Filled | Buffer::Front => is_filled(ask),
+        Buffer::Brought | Buffer::Text => true,
+        Buffer::Unused => ask.buffer.is_empty(),
     };
     if in_front {
         String::new()
     } else {
-        format!(" buffer {}", bytes::text(&ask.buffer))
+        format!(" buffer {}", own_buffer_text(ask))
+    }
+}
+
+fn own_buffer_text(ask: &Ask) -> String {
+    buffer_text(ask.words.operation, &ask.buffer)
+}
+
+/// The bytes of a buffer that an operation is lent: as HEX text where it is to hold that.
+pub fn buffer_text(operation: u64, buffer: &[u8]) -> String {
+    match Operation::of(operation).is_some_and(|operation| operation.buffer().is_text()) {
+        true => bytes::hex_text(buffer),
+        false => bytes::text(buffer),
     }
 }
 
@@ -200,7 +213,7 @@ fn key_text(word: &Word) -> String {
     }
 }
 
-fn expected_text(expected: &Expected) -> String {
+fn expected_text(operation: u64, expected: &Expected) -> String {
     let mut text = words::number_text(expected.refusal);
     if let Some(place) = expected.place.and_then(Place::of) {
         let _ = write!(text, " {}", words::place_word(place));
@@ -209,8 +222,11 @@ fn expected_text(expected: &Expected) -> String {
     if let Some(number) = expected.number {
         let _ = write!(text, " number {}", words::number_text(number));
     }
+    if let Some(length) = expected.length {
+        let _ = write!(text, " length {}", words::number_text(length));
+    }
     if let Some(buffer) = &expected.buffer {
-        let _ = write!(text, " buffer {}", bytes::text(buffer));
+        let _ = write!(text, " buffer {}", buffer_text(operation, buffer));
     }
     text
 }

@@ -81,6 +81,8 @@ pub struct Expected {
     pub first: Option<u64>,
     pub second: Option<u64>,
     pub number: Option<u64>,
+    /// The length of a dump's text.
+    pub length: Option<u64>,
     pub buffer: Option<Vec<u8>>,
     /// Names for the first and the second token.
     pub names: [Option<String>; 2],
@@ -258,11 +260,12 @@ impl Script {
 }
 
 impl Expected {
-    /// All that an answer gives, under these names. Zeros are not stated, but for a number that the
-    /// operation answers.
+    /// All that an answer gives, under these names. Zeros are not stated, but for a number or a length
+    /// that the operation answers.
     pub fn of(operation: u64, reply: &Reply, names: [Option<String>; 2]) -> Expected {
         let granted = reply.refusal == 0;
-        let answers = Operation::of(operation).is_some_and(Operation::answers_number);
+        let answers =
+            |what: fn(Operation) -> bool| granted && Operation::of(operation).is_some_and(what);
         let [first, second] = names.map(|name| name.filter(|_| granted));
         let stated = |word: u64, named: bool| Some(word).filter(|word| *word != 0 || named);
         Expected {
@@ -270,7 +273,8 @@ impl Expected {
             place: stated(reply.place, false),
             first: stated(reply.first, first.is_some()),
             second: stated(reply.second, second.is_some()),
-            number: stated(reply.dropped, granted && answers),
+            number: stated(reply.dropped, answers(Operation::answers_number)),
+            length: stated(reply.length, answers(Operation::answers_length)),
             buffer: None,
             names: [first, second],
         }

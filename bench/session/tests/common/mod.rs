@@ -44,6 +44,29 @@ impl Dice {
         bytes
     }
 
+    /// Bytes that look like HEX text: records, some of them cut, and letters of all kinds.
+    pub fn letters(&mut self, length: usize) -> Vec<u8> {
+        let parts: [&[u8]; 8] = [
+            b":00000001FF\n",
+            b":0000000000\n",
+            b":",
+            b"\n",
+            b"\r\n",
+            b"00aF",
+            b"\"# *\\",
+            b"\xa5",
+        ];
+        let mut bytes = Vec::new();
+        while bytes.len() < length {
+            let part = parts[self.below(8) as usize];
+            let times = [1, 2, self.below(40) as usize][self.below(3) as usize];
+            let cut = if self.below(4) == 0 { self.below(part.len() as u64) as usize } else { 0 };
+            bytes.extend(part[cut..].repeat(times));
+        }
+        bytes.truncate(length);
+        bytes
+    }
+
     pub fn words(&mut self) -> Words {
         let words = [(); Words::COUNT].map(|()| self.some_word());
         let operation =
@@ -54,8 +77,11 @@ impl Dice {
     pub fn step(&mut self) -> Step {
         let length = [0, 1, self.below(40) as usize, self.below(5000) as usize];
         let length = length[self.below(4) as usize];
-        let filled = self.below(3) == 0;
-        let buffer = if filled { vec![0xA5; length] } else { self.bytes(length) };
+        let buffer = match self.below(4) {
+            0 => vec![0xA5; length],
+            1 => self.letters(length),
+            _ => self.bytes(length),
+        };
         Step { request: self.words(), buffer }
     }
 

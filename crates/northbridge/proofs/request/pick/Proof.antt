@@ -5,8 +5,8 @@ use Rattle.northbridge.proofs.WordLaws.{beyond, picked-none}
 use Rattle.northbridge.proofs.request.pick.Statement.{statement}
 use Rattle.northbridge.proofs.request.pick.Tie as tie
 
-other : tie.Need-returns-14
-other c = picked-none _ _ _ _ _ _ _ _ (beyond 13 _ (c .match .rest))
+other : tie.Need-returns-16
+other c = picked-none _ _ _ _ _ _ _ _ (beyond 15 _ (c .match .rest))
 
 pub pick-spec : {M : Type 1} → statement M
 unfolding picked
@@ -26,4 +26,6 @@ pick-spec =
     (λ c. rw (c .match .keys11))
     (λ c. rw (c .match .keys12))
     (λ c. rw (c .match .keys13))
+    (λ c. rw (c .match .keys14))
+    (λ c. rw (c .match .keys15))
     other)

@@ -3,7 +3,7 @@
 use mathlib.Core.Path.{refl, ap}
 use borrow.Author.Needs.{needs}
 use Rattle.operations.specs.Turns.{requestAs}
-use Rattle.operations.proofs.TurnLaws.{load-turn, quiet-turn, revoke-turn, turned-as, write-turn}
+use Rattle.operations.proofs.TurnLaws.{load-turn, quiet-turn, revoke-turn, turn, turned-as, write-turn}
 use Rattle.operations.proofs.state.State.operate.Statement.{statement}
 use Rattle.operations.proofs.state.State.operate.Tie as tie
 
@@ -11,6 +11,10 @@ pub operate-spec : {M : Type 1} → statement M
 operate-spec =
     tie.close
     (tie.spec
+    (λ c. search needs)
+    (λ c κs. search needs)
+    (λ c. search needs)
+    (λ c κs. search needs)
     (λ c. search needs)
     (λ c κs. search needs)
     (λ c. search needs)
@@ -78,4 +82,12 @@ operate-spec =
     (λ c. let g = c .before .before .before .before in turned-as _ _ _ _ (g .revoke .result) _ _ _ _ _ (ap requestAs (g .before .before .before .before .request12 .given .1)) (revoke-turn _ _ _ _ (g .revoke .result) _ _ _ _ (g .revoke .ensures .0) (g .revoke .ensures .1)))
     (λ c. search needs)
     (λ c. search needs)
-    (λ c. let g = c .before .before in turned-as _ _ _ _ (g .create .result) _ _ _ _ _ (ap requestAs (g .before .before .before .before .request13 .given .1)) (quiet-turn _ _ _ _ (g .create .result) _ _ refl refl refl (g .create .ensures))))
+    (λ c. search needs)
+    (λ c. let g = c .before .before .before .before in turned-as _ _ _ _ (g .serve-load .result) _ _ _ _ _ (ap requestAs (g .before .before .before .before .before .before .request13 .given .1)) (turn _ _ _ _ _ (g .serve-load .result) _ _ _ (g .serve-load .ensures .0) (g .serve-load .ensures .1 .0) (g .serve-load .ensures .1 .1)))
+    (λ c. search needs)
+    (λ c. search needs)
+    (λ c. search needs)
+    (λ c. let g = c .before .before .before .before in turned-as _ _ _ _ (g .serve-dump .result) _ _ _ _ _ (ap requestAs (g .before .before .before .before .before .before .request14 .given .1)) (turn _ _ _ _ _ (g .serve-dump .result) _ _ _ (g .serve-dump .ensures .0) (g .serve-dump .ensures .1 .0) (g .serve-dump .ensures .1 .1)))
+    (λ c. search needs)
+    (λ c. search needs)
+    (λ c. let g = c .before .before in turned-as _ _ _ _ (g .create .result) _ _ _ _ _ (ap requestAs (g .before .before .before .before .request15 .given .1)) (quiet-turn _ _ _ _ (g .create .result) _ _ refl refl refl (g .create .ensures))))

@@ -1,0 +1,45 @@
+//! Why a load or a dump was refused: a note of the tool, read off the text and what stood before.
+
+use crate::hex;
+use bridge::{text_length, Buffer, Check, Operation, TEXT_BYTES};
+use session::entry::Entry;
+use session::play::Played;
+use session::token::Token;
+
+/// The note on a refused load or dump; none for other requests, or where there is nothing to tell.
+pub fn note(played: &Played) -> Option<String> {
+    let check = Check::of(played.reply.refusal)?;
+    match (Operation::of(played.request.operation)?.buffer(), check) {
+        (Buffer::Text, Check::Malformed | Check::Checksum) => of_line(check, &played.buffer),
+        (Buffer::Text, Check::Bounds) => of_reach(played),
+        (Buffer::Front, Check::Room) => of_room(played),
+        _ => None,
+    }
+}
+
+/// The line of the text that is bad.
+fn of_line(check: Check, text: &[u8]) -> Option<String> {
+    let fault = hex::read(text).err().filter(|fault| fault.check == check)?;
+    Some(format!("line {}: {}", fault.line, fault.why))
+}
+
+fn of_reach(played: &Played) -> Option<String> {
+    let end = hex::read(&played.buffer).ok()?.reach?.end;
+    let length = length(played)?;
+    (end > length).then(|| format!("the data ends behind byte {}, of {length}", end - 1))
+}
+
+fn of_room(played: &Played) -> Option<String> {
+    let (text, lent) = (text_length(length(played)?), played.buffer.len() as u64);
+    let most = TEXT_BYTES as u64;
+    if text > most {
+        return Some(format!("the text would have {text} bytes, of at most {most}"));
+    }
+    (text > lent).then(|| format!("the text has {text} bytes, and the buffer {lent}"))
+}
+
+/// How many bytes the named entry has.
+fn length(played: &Played) -> Option<u64> {
+    let number = Token::unpack(played.request.token).number;
+    Some(Entry::at(&played.before.table, usize::try_from(number).ok()?)?.length())
+}

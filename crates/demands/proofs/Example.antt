@@ -1,0 +1,105 @@
+-- Demand 3 of the exported function used, with the real tags: its premises can be met.
+-- Assumes nothing.
+use mathlib.Core.Path.{_≡_, refl, sym, ap, subst}
+use mathlib.Core.Bool.{Bool, true, false, false≢true, cond}
+use mathlib.Core.Logic.{_⊎_, inl, inr}
+use mathlib.Core.List.{List, [], _∷_, List·Memᴰ, List·Memᴰ·cases-cons, List·Memᴰ·head, List·Memᴰ·not-nil}
+use Prim.Native.Nat.{ℕ}
+use native.Mathlib.Omega.{arith}
+use lib.Dec.{ltb}
+use borrow.Author.Tests.{ltb-true}
+use Rattle.bits.specs.Bytes.{AllBytes, bytes, lowBytes, lowNumber, number}
+use Rattle.bits.specs.SipHash.{absorb, add64, compress, finish, padded, rotl, siphash, sipRound, word}
+use Rattle.layout.specs.Entry.{directNumber, directOf, entryNumber, entryOf, indirectNumber, indirectOf}
+use Rattle.layout.specs.Form.{illFormed}
+use Rattle.layout.specs.Tag.{tagOf}
+use Rattle.tokens.specs.Permissions.{within}
+use Rattle.machine.specs.Demand3 as claim
+use Rattle.machine.specs.Demand3.{above, IsReset, itself}
+use Rattle.machine.specs.Issuing.{passOver, seek}
+use Rattle.machine.specs.Line.{walk}
+use Rattle.machine.specs.Parts.{at, cleared, put, size}
+use Rattle.machine.specs.Requests.{derive, lock, Request, reset, revoke}
+use Rattle.machine.specs.Steps.{answer, decide, step}
+use Rattle.machine.specs.Writes.{Name}
+use Rattle.bits.proofs.ByteLists.{bytes-zeros}
+use Rattle.demands.specs.Demands.{after, asks, Brought, Copies, Demand3, Grants, next, Shut, Standing}
+use Rattle.demands.specs.Example.{before, broken, child, derives, First, first, listOf, locks7, Premises, reads8, resets1, revokes}
+use Rattle.northbridge.specs.Exported.{Asked, asked, exported, known, picked, told, unknown, wordBytes}
+use Rattle.demands.proofs.Secrecy.{secrecy}
+
+-- ---- what is needed to see it
+
+-- bytes, by a test
+allBytes : List ℕ → Bool
+allBytes [] = true
+allBytes (x ∷ xs) = cond (ltb x 256) (allBytes xs) false
+
+bytes-by : (xs : List ℕ) → allBytes xs ≡ true → AllBytes xs
+unfolding allBytes
+bytes-by [] h = tt
+bytes-by (x ∷ xs) h = go (ltb x 256) refl h (bytes-by xs)
+  where
+    go : (b : Bool) → ltb x 256 ≡ b → cond b (allBytes xs) false ≡ true → (allBytes xs ≡ true → AllBytes xs) → AllBytes (x ∷ xs)
+    go true l h f = (ltb-true x 256 l, f h)
+    go false l h f = absurd (false≢true h)
+
+-- what is asked is such a request
+abbrev Such : (Request → Type 0) → Asked → Type 0
+Such P (known r) = P r
+Such P unknown = ⊥
+
+such : (P : Request → Type 0) (κ : Standing) (q : Brought) → Grants P κ q → Such P (asks κ q)
+such P κ q g = subst (Such P) (sym (g .asked)) (g .such)
+
+-- if a request is asked, it is such a one
+abbrev Each : (Request → Type 0) → Asked → Type 0
+Each P (known r) = P r
+Each P unknown = Unit {0}
+
+each : (P : Request → Type 0) (k : Asked) → Each P k → (r : Request) → k ≡ known r → P r
+each P k h r e = subst (Each P) e h
+
+-- ---- the example
+
+-- with a broken call in the first list, and a read by 8 before the revoke, which is refused; the revoke gives the root alone
+pub premises : Premises before first (reads8 ∷ []) revokes (resets1 ∷ []) derives (broken ∷ locks7 ∷ reads8 ∷ []) child
+unfolding before bytes number lowBytes lowNumber directNumber directOf entryNumber entryOf indirectNumber indirectOf illFormed within absorb add64 compress finish padded rotl siphash sipRound word tagOf passOver seek walk at cleared put size decide step answer asked exported picked told wordBytes allBytes
+premises = record {
+  bytes = bytes-zeros 32;
+  granted = record { request = reset 0 0 1; asked = refl; such = claim.resets; granted = refl };
+  firstBytes = (bytes-by (resets1 .request) refl, (bytes-by (derives .request) refl, (bytes-by (broken .request) refl, (bytes-by (locks7 .request) refl, tt))));
+  oneReset = (λ g. no-derive (such _ _ _ g), (λ g. such _ _ _ g, (λ g. no-lock (such _ _ _ g), tt)));
+  locked = record { direct = refl; locked = refl; held = refl };
+  moreBytes = (bytes-by (reads8 .request) refl, tt);
+  without = (each _ _ (elim [ ], λ e. omega arith), tt);
+  revoked = record { before = (λ g. omega (arith, g .granted), tt); revoke = record { request = revoke 0 0; asked = refl; such = claim.revokes refl; granted = refl } };
+  revokeBytes = (bytes-by (revokes .request) refl, tt);
+  whole = refl;
+  given = List·Memᴰ·head refl;
+  under = record { owner = 0; owns = above {n = 1} {m = 0} (record { indirect = refl; holds = refl }) (itself refl); byte = 2; theirs = omega arith; ours = omega arith };
+  once = λ h. other (List·Memᴰ·cases-cons h);
+}
+  where
+    no-derive : IsReset (derive 0 2 3 4 0) → ⊥
+    no-derive = elim [ ]
+
+    no-lock : IsReset (lock 0 7) → ⊥
+    no-lock = elim [ ]
+
+    other : (child ≡ record { number = 0; tag = 20639 }) ⊎ List·Memᴰ child [] → ⊥
+    other (inl e) = omega (arith, ap (λ (x : Name). x .number) e)
+    other (inr m) = List·Memᴰ·not-nil m
+
+-- and so the token that the derive gave is shut by the revoke
+shut-by : (κ : Standing) (f : First) (qs : List Brought) (r : Brought) (a : List Brought) (q : Brought) (b : List Brought) (k : Name) → Premises κ f qs r a q b k
+    → Shut (next (after (after κ (listOf f)) qs) r) k
+unfolding Demand3
+shut-by κ f qs r a q b k p =
+    let μ : Standing = after κ (listOf f) in
+    let same : Copies (at (μ .table) (f .entry)) μ μ = record { state = refl; table = refl; long = refl; outside = λ x o. refl } in
+    secrecy κ (p .bytes) (f .reset) (p .granted) (f .follows) (p .firstBytes) (p .oneReset) (f .entry) (f .task) (p .locked) μ μ same same qs (p .moreBytes) (p .without)
+    .closed r (p .revoked) [] (p .revokeBytes) tt a q b (p .whole) k (p .given) (p .under) (p .once)
+
+pub child-shut : Shut (after before (resets1 ∷ derives ∷ broken ∷ locks7 ∷ reads8 ∷ revokes ∷ [])) child
+child-shut = shut-by before first (reads8 ∷ []) revokes (resets1 ∷ []) derives (broken ∷ locks7 ∷ reads8 ∷ []) child premises

@@ -1,0 +1,4 @@
+pub mod Demands
+pub mod Example
+pub mod Listed
+pub mod Secrecy

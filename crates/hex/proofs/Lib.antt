@@ -1,0 +1,7 @@
+pub mod AccountedLaws
+pub mod DataLaws
+pub mod DigitLaws
+pub mod Examples
+pub mod LineLaws
+pub mod ReadLaws
+pub mod WrittenLaws

@@ -1,0 +1,259 @@
+-- Loads and dumps: their checks, and what they leave.
+-- Assumes nothing.
+use mathlib.Core.Path.{_≡_, refl, sym, ap, _∙_}
+use mathlib.Core.Bool.{Bool, true, false, true≢false, _&&_, cond}
+use mathlib.Core.List.{List, [], _∷_}
+use Prim.Native.Nat.{ℕ, _+_, _-_, _^_, _≤_, _<_, max}
+use native.Mathlib.Nat.{add-sub-cancel-left}
+use native.Mathlib.Omega.{arith}
+use lib.Dec.{eqb, leb, ltb}
+use lib.ListN.{drop, length, length-drop, length-take, take}
+use borrow.Author.Tests.{le-leb, leb-true, lt-leb}
+use borrow.Rule.Slice.PartMut.{putMid}
+use Rattle.hex.specs.Accounted as claim
+use Rattle.hex.specs.Text.{farthest, loads, Piece, refused, Said, said}
+use Rattle.hex.specs.Written.{writtenLength}
+use Rattle.hex.proofs.AccountedLaws.{accounted}
+use Rattle.hexread.specs.Answers.{applied, Fits, judgedAs}
+use Rattle.hexread.specs.declared.text.Judged.{Judged}
+use Rattle.hexread.specs.declared.text.Judged.the-variants.{Loads, Malformed, WrongSum}
+use Rattle.tokens.specs.Permissions.{R, W, within}
+use Rattle.tokens.specs.Token.{named}
+use Rattle.layout.specs.declared.entry.Entry.{Entry}
+use Rattle.tokens.specs.declared.token.Named.{Named}
+use Rattle.checks.specs.Holds.{requestHolds, settingsHold}
+use Rattle.checks.specs.Reached.{reachVerdict}
+use Rattle.checks.proofs.ReachLaws.{reached-inside}
+use Rattle.checks.proofs.VerdictLaws.{first-passes, first-stops, together}
+use Rattle.machine.specs.Images.{piecesIn, piecesOf, spares, textFits}
+use Rattle.machine.specs.Operations.{Effect, effecting, grant, grantDump, grantLoad, namedEntry, numberOf, placed}
+use Rattle.machine.specs.Parts.{at, State}
+use Rattle.machine.specs.Requests.{dump, load, Request}
+use Rattle.machine.specs.Steps.{bufferAfter, memoryAfter, pass, stop, stored, Verdict, verdict}
+use Rattle.machine.specs.Stops.{atBounds, atChecksum, atRecord, atRight, atRoom, checks, needAll, noOffset, places, reachable, Refusal, taskFits, textRead, textShort}
+use Rattle.machine.proofs.Decided.{Passed}
+use Rattle.machine.proofs.PlaceLaws.{stored-part}
+use Rattle.table.specs.States.{stateAs}
+use Rattle.table.specs.declared.state.StateWords.{StateWords}
+use Rattle.rulings.specs.Rulings.{effectOn, grantedEffect, granting, handed, rulingOn, tokensOn, verdictOn}
+use Rattle.rulings.specs.declared.reply.Outcome.{Outcome}
+use Rattle.images.specs.Segments.{Comes, telling}
+use Rattle.images.specs.declared.segment.Imaged.{Imaged}
+use Rattle.images.specs.declared.segment.Imaged.the-variants as imaged
+use Rattle.rulings.proofs.AllotLaws.{request-limits}
+use Rattle.rulings.proofs.RulingLaws.{by-effect, decided-pass, decided-stop, effect-pass, passed-on, rest-alone, token-passes, token-stops}
+
+-- ---- the text
+
+-- a text is read, or refused by 12 or by 13
+data Said-of (b : List ℕ) : Type 0 where
+  reads : (ps : List Piece) → said b ≡ loads ps → Said-of b
+  twelve : said b ≡ refused 12 → Said-of b
+  thirteen : said b ≡ refused 13 → Said-of b
+
+said-of : (b : List ℕ) → Said-of b
+said-of b = by (accounted .others b)
+  where
+    by : claim.Outcome b → Said-of b
+    by (claim.spelt ps h) = reads ps (accounted .reads b ps h)
+    by (claim.malformed h) = twelve h
+    by (claim.wrong h) = thirteen h
+
+module _ (b : List ℕ) where
+  text-reads : (ps : List Piece) → said b ≡ loads ps → verdict (textRead b) ≡ pass
+  unfolding spares
+  text-reads ps e = rw e
+
+  text-malformed : said b ≡ refused 12 → verdict (textRead b) ≡ stop atRecord
+  unfolding spares
+  text-malformed e = rw e
+
+  text-wrong : said b ≡ refused 13 → verdict (textRead b) ≡ stop atChecksum
+  unfolding spares
+  text-wrong e = rw e
+
+  -- what the code judges of it
+  module _ (j : Judged) (is : j ≡ judgedAs 0 (said b)) where
+    pub judged-malformed : j ≡ Malformed → verdict (textRead b) ≡ stop atRecord
+    judged-malformed h = by (said-of b)
+      where
+        by : Said-of b → verdict (textRead b) ≡ stop atRecord
+        by (reads ps e) = let d : Malformed ≡ judgedAs 0 (loads ps) = sym h ∙ is ∙ ap (judgedAs 0) e in let z : _≡_ {A = ℕ} 0 1 = cc in absurd (omega arith)
+        by (twelve e) = text-malformed e
+        by (thirteen e) = let d : Malformed ≡ WrongSum = sym h ∙ is ∙ ap (judgedAs 0) e in let z : _≡_ {A = ℕ} 0 1 = cc in absurd (omega arith)
+
+    pub judged-wrong : j ≡ WrongSum → verdict (textRead b) ≡ stop atChecksum
+    judged-wrong h = by (said-of b)
+      where
+        by : Said-of b → verdict (textRead b) ≡ stop atChecksum
+        by (reads ps e) = let d : WrongSum ≡ judgedAs 0 (loads ps) = sym h ∙ is ∙ ap (judgedAs 0) e in let z : _≡_ {A = ℕ} 0 1 = cc in absurd (omega arith)
+        by (twelve e) = let d : WrongSum ≡ Malformed = sym h ∙ is ∙ ap (judgedAs 0) e in let z : _≡_ {A = ℕ} 0 1 = cc in absurd (omega arith)
+        by (thirteen e) = text-wrong e
+
+    pub judged-loads : (end : ℕ) → j ≡ Loads end → (verdict (textRead b) ≡ pass) × (farthest (piecesOf b) ≡ end)
+    unfolding piecesOf
+    judged-loads end h = by (said-of b)
+      where
+        by : Said-of b → (verdict (textRead b) ≡ pass) × (farthest (piecesOf b) ≡ end)
+        by (reads ps e) =
+            let d : Loads end ≡ Loads (max 0 (farthest ps)) = sym h ∙ is ∙ ap (judgedAs 0) e in
+            let z : end ≡ max 0 (farthest ps) = cc in
+            (text-reads ps e, rw e (omega arith))
+        by (twelve e) = let d : Loads end ≡ Malformed = sym h ∙ is ∙ ap (judgedAs 0) e in let z : _≡_ {A = ℕ} 0 1 = cc in absurd (omega arith)
+        by (thirteen e) = let d : Loads end ≡ WrongSum = sym h ∙ is ∙ ap (judgedAs 0) e in let z : _≡_ {A = ℕ} 0 1 = cc in absurd (omega arith)
+
+  -- a text that is not refused is read, and its data lie in what they end in
+  text-fits : (n : ℕ) → spares 12 b ≡ true → spares 13 b ≡ true → farthest (piecesOf b) ≤ n → Fits (said b) n
+  unfolding spares piecesOf
+  text-fits n m w h = by (said-of b)
+    where
+      by : Said-of b → Fits (said b) n
+      by (reads ps e) = rw e (rw e at h)
+      by (twelve e) = let z : spares 12 b ≡ false = rw e in absurd (true≢false (sym m ∙ z))
+      by (thirteen e) = let z : spares 13 b ≡ false = rw e in absurd (true≢false (sym w ∙ z))
+
+-- ---- the segment
+
+-- the part of memory from a on, which comes back with the data stored in it
+pub stored-back : (a n : ℕ) (b m ys : List ℕ) → a + n ≤ length m → Fits (said b) n → ys ≡ applied (said b) (take (a + n - a) (drop a m)) → putMid a (a + n - a) m ys ≡ stored (placed a (piecesOf b)) m
+unfolding piecesOf
+stored-back a n b m ys h f e = by (said b) f e
+  where
+    by : (s : Said) → Fits s n → ys ≡ applied s (take (a + n - a) (drop a m)) → putMid a (a + n - a) m ys ≡ stored (placed a (piecesIn s)) m
+    by (refused k) f e = absurd f
+    by (loads ps) f e = rw (e, add-sub-cancel-left) (sym (stored-part a n ps m h f))
+
+pub fits-as : (a n : ℕ) (b m : List ℕ) → a + n ≤ length m → Fits (said b) n → Fits (said b) (length (take (a + n - a) (drop a m)))
+fits-as a n b m h f = let long : length (take (a + n - a) (drop a m)) ≡ n = simp (add-sub-cancel-left, length-take, length-drop) (omega arith) in rw long f
+
+-- ---- a load
+
+module _ (m : ℕ) (s : State) (t : List ℕ) (k u : ℕ) (b : List ℕ) where
+  module _ (end : ℕ) (ends : farthest (piecesOf b) ≡ end) (n : Named) (e : Entry) (is : n ≡ named k) (there : e ≡ at t (n .number)) where
+    load-of : verdict (places m s t (load k u) b .rest) ≡ cond (within W (e .permissions)) (cond (leb end (e .length)) pass (stop atBounds)) (stop atRight)
+    load-of = rw (ends, there, is)
+
+    pub load-right : within W (e .permissions) ≡ false → verdict (places m s t (load k u) b .rest) ≡ stop atRight
+    load-right h = load-of ∙ rw h
+
+    module _ (held : within W (e .permissions) ≡ true) where
+      pub load-out : leb end (e .length) ≡ false → verdict (places m s t (load k u) b .rest) ≡ stop atBounds
+      load-out h = load-of ∙ rw (held, h)
+
+      pub load-in : leb end (e .length) ≡ true → verdict (places m s t (load k u) b .rest) ≡ pass
+      load-in h = load-of ∙ rw (held, h)
+
+  pub load-request : (settingsHold m s t && ltb u (2 ^ 55) && eqb (named k .offset) 0 && leb (length b) 65536) ≡ requestHolds m s t (load k u) b
+  unfolding settingsHold requestHolds
+  load-request = refl
+
+  module _ (ok : requestHolds m s t (load k u) b ≡ true) where
+    -- the text stops it
+    pub load-text : {r : Refusal} → verdict (textRead b) ≡ stop r → verdictOn m s t (load k u) b ≡ stop r
+    unfolding tokensOn
+    load-text h = token-stops m s t (load k u) b ok (first-stops (textRead b) (reachable m t k u) h)
+
+    module _ (read : verdict (textRead b) ≡ pass) where
+      load-reached : {v : Verdict} → reachVerdict m t k u ≡ v → tokensOn m s t (load k u) b ≡ v
+      unfolding reachVerdict tokensOn
+      load-reached h = first-passes (textRead b) (reachable m t k u) read ∙ h
+
+      pub load-token : {r : Refusal} → reachVerdict m t k u ≡ stop r → verdictOn m s t (load k u) b ≡ stop r
+      load-token h = token-stops m s t (load k u) b ok (load-reached h)
+
+      pub load-rest : reachVerdict m t k u ≡ pass → verdictOn m s t (load k u) b ≡ verdict (places m s t (load k u) b .rest)
+      load-rest h =
+          token-passes m s t (load k u) b ok (load-reached h)
+          ∙ rest-alone m s t (load k u) b refl (request-limits m s t (load k u) b (taskFits u ∷ noOffset k ∷ textShort b ∷ []) refl ok .left)
+
+  -- what a pass says: the segment lies in memory, and the data in the segment
+  module _ (h : verdictOn m s t (load k u) b ≡ pass) where
+    all : Passed (checks m s t (load k u) b)
+    all = passed-on m s t (load k u) b h
+
+    pub load-room : namedEntry t k .base + namedEntry t k .length ≤ m
+    load-room = reached-inside m t (numberOf k) (let p = all in search) (let p = all in search)
+
+    pub load-fits : Fits (said b) (namedEntry t k .length)
+    load-fits = let p = all in text-fits b (namedEntry t k .length) (search) (search) (leb-true (farthest (piecesOf b)) (namedEntry t k .length) (search))
+
+    pub load-effect : effectOn m s t (load k u) b ≡ grantLoad (namedEntry t k) b .effect
+    unfolding grantedEffect
+    load-effect = effect-pass m s t (load k u) b h
+
+-- it leaves the buffer, and a dump memory
+pub load-buffer : (m : ℕ) (s : State) (t : List ℕ) (k u : ℕ) (b memory : List ℕ) → b ≡ bufferAfter (effectOn m s t (load k u) b) memory b
+load-buffer m s t k u b memory = by-effect (λ (f : Effect). b ≡ bufferAfter f memory b) m s t (load k u) b refl refl
+
+pub dump-memory : (m : ℕ) (s : State) (t : List ℕ) (k u : ℕ) (b memory : List ℕ) → memory ≡ memoryAfter (effectOn m s t (dump k u) b) memory
+dump-memory m s t k u b memory = by-effect (λ (f : Effect). memory ≡ memoryAfter f memory) m s t (dump k u) b refl refl
+
+-- ---- a dump
+
+pub room-some : (n room : ℕ) {w : ℕ} → n ≤ 23820 → w ≡ writtenLength n → leb w room ≡ (leb (writtenLength n) 65536 && leb (writtenLength n) room)
+room-some n room h e = rw (e, le-leb (writtenLength n) 65536 (omega arith))
+
+pub room-none : (n room : ℕ) → 23820 < n → false ≡ (leb (writtenLength n) 65536 && leb (writtenLength n) room)
+room-none n room h = rw (lt-leb (writtenLength n) 65536 (omega arith))
+
+module _ (m : ℕ) (s : State) (t : List ℕ) (k u : ℕ) (b : List ℕ) where
+  module _ (room : ℕ) (long : length b ≡ room) (n : Named) (e : Entry) (is : n ≡ named k) (there : e ≡ at t (n .number)) where
+    dump-of : verdict (places m s t (dump k u) b .rest) ≡ cond (within R (e .permissions)) (cond (leb (writtenLength (e .length)) 65536 && leb (writtenLength (e .length)) room) pass (stop atRoom)) (stop atRight)
+    dump-of = ap (λ (v : Verdict). cond (within R (namedEntry t k .permissions)) v (stop atRight)) (together atRoom (textFits (namedEntry t k .length) b)) ∙ rw (← long, there, is)
+
+    pub dump-right : within R (e .permissions) ≡ false → verdict (places m s t (dump k u) b .rest) ≡ stop atRight
+    dump-right h = dump-of ∙ rw h
+
+    module _ (held : within R (e .permissions) ≡ true) where
+      pub dump-out : (leb (writtenLength (e .length)) 65536 && leb (writtenLength (e .length)) room) ≡ false → verdict (places m s t (dump k u) b .rest) ≡ stop atRoom
+      dump-out h = dump-of ∙ rw (held, h)
+
+      pub dump-in : (leb (writtenLength (e .length)) 65536 && leb (writtenLength (e .length)) room) ≡ true → verdict (places m s t (dump k u) b .rest) ≡ pass
+      dump-in h = dump-of ∙ rw (held, h)
+
+  pub dump-request : (settingsHold m s t && ltb u (2 ^ 55) && eqb (named k .offset) 0) ≡ requestHolds m s t (dump k u) b
+  unfolding settingsHold requestHolds
+  dump-request = refl
+
+  pub dump-token : {v : Verdict} → reachVerdict m t k u ≡ v → tokensOn m s t (dump k u) b ≡ v
+  unfolding reachVerdict tokensOn
+  dump-token h = h
+
+  pub dump-rest : requestHolds m s t (dump k u) b ≡ true → reachVerdict m t k u ≡ pass → verdictOn m s t (dump k u) b ≡ verdict (places m s t (dump k u) b .rest)
+  dump-rest ok h =
+      token-passes m s t (dump k u) b ok (dump-token h)
+      ∙ rest-alone m s t (dump k u) b refl (request-limits m s t (dump k u) b (taskFits u ∷ noOffset k ∷ []) refl ok .left)
+
+  -- what a pass says: the segment lies in memory, and its text in the buffer
+  module _ (h : verdictOn m s t (dump k u) b ≡ pass) where
+    all-dump : Passed (checks m s t (dump k u) b)
+    all-dump = passed-on m s t (dump k u) b h
+
+    pub dump-inside : namedEntry t k .base + namedEntry t k .length ≤ m
+    dump-inside = reached-inside m t (numberOf k) (let p = all-dump in search) (let p = all-dump in search)
+
+    pub dump-room : (namedEntry t k .length ≤ 23820) × (writtenLength (namedEntry t k .length) ≤ length b)
+    dump-room =
+        let p = all-dump in
+        let w : writtenLength (namedEntry t k .length) ≤ 65536 = leb-true (writtenLength (namedEntry t k .length)) 65536 (search) in
+        (omega arith, leb-true (writtenLength (namedEntry t k .length)) (length b) (search))
+
+    pub dump-effect : effectOn m s t (dump k u) b ≡ grantDump (namedEntry t k) .effect
+    unfolding grantedEffect
+    dump-effect = effect-pass m s t (dump k u) b h
+
+-- ---- what is handed back
+
+handed-back : (m : ℕ) (s : StateWords) (t : List ℕ) (q : Request) (b : List ℕ) (n : ℕ) (f : Effect) → grant m t q b ≡ effecting n f → (r : Imaged) → Comes r m (stateAs s) t q b
+    → (o : Outcome) → o ≡ telling s r → handed o t ≡ rulingOn m (stateAs s) t q b
+unfolding granting
+handed-back m s t q b n f is (imaged.Stop why) h o e = decided-stop m s t q b why o e h
+handed-back m s t q b n f is (imaged.Done l) h o e = decided-pass m (stateAs s) t q b (handed o t) (rw (e, h .1, is)) (h .0)
+
+pub load-handed : (m : ℕ) (s : StateWords) (t : List ℕ) (k u : ℕ) (b : List ℕ) (r : Imaged) (o : Outcome) → Comes r m (stateAs s) t (load k u) b → o ≡ telling s r
+    → handed o t ≡ rulingOn m (stateAs s) t (load k u) b
+load-handed m s t k u b r o h e = handed-back m s t (load k u) b _ _ refl r h o e
+
+pub dump-handed : (m : ℕ) (s : StateWords) (t : List ℕ) (k u : ℕ) (b : List ℕ) (r : Imaged) (o : Outcome) → Comes r m (stateAs s) t (dump k u) b → o ≡ telling s r
+    → handed o t ≡ rulingOn m (stateAs s) t (dump k u) b
+dump-handed m s t k u b r o h e = handed-back m s t (dump k u) b _ _ refl r h o e

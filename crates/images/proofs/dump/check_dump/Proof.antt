@@ -1,0 +1,31 @@
+-- `images::dump::check_dump` meets its contract: place 1 is one test, and then the token decides.
+-- Assumes nothing.
+use mathlib.Core.Path.{_≡_, refl, sym, _∙_}
+use mathlib.Core.Bool.{Bool, _&&_}
+use Prim.Native.Nat.{_^_}
+use borrow.Author.Needs.{needs}
+use lib.Dec.{eqb, ltb}
+use Rattle.machine.specs.Parts.{State}
+use Rattle.machine.specs.Requests.{dump}
+use Rattle.checks.specs.Holds.{requestHolds, settingsHold}
+use Rattle.rulings.proofs.RulingLaws.{request-stops}
+use Rattle.images.proofs.ImageLaws.{dump-request}
+use Rattle.images.proofs.dump.check_dump.Statement.{statement}
+use Rattle.images.proofs.dump.check_dump.Tie as tie
+
+-- place 1, as the test says
+asked : (c : tie.After-read) (s : State) (b : Bool)
+    → let a = c .before .before .before .args in
+    a .set ≡ settingsHold (a .memory) s (a .table .now)
+    → (a .set && ltb (a .task) (2 ^ 55) && eqb (c .read .result .offset) 0) ≡ b
+    → requestHolds (a .memory) s (a .table .now) (dump (a .token) (a .task)) (a .buffer .now) ≡ b
+asked c s b e h = sym (dump-request _ _ _ _ _ _) ∙ (rw (e, c .read .ensures) at h)
+
+pub check-dump-spec : {M : Type 1} → statement M
+check-dump-spec =
+    tie.close
+    (tie.spec
+    (λ c κs. search needs)
+    (λ c κs. search needs)
+    (λ c s e. c .dump-token .ensures s _ refl (asked (c .before .before .before) s _ e (c .before .if1 .taken)))
+    (λ c s e. request-stops _ _ _ _ _ (asked (c .before .before) s _ e (c .if1 .left))))

@@ -1,0 +1,59 @@
+-- What the checks of a load and of a dump come to, and what they come to themselves.
+-- Assumes nothing.
+use mathlib.Core.Path.{_≡_}
+use mathlib.Core.Bool.{true}
+use mathlib.Core.List.{List}
+use Prim.Native.Nat.{ℕ}
+use lib.ListN.{length}
+use Rattle.hex.specs.Text.{farthest}
+use Rattle.layout.specs.declared.entry.Entry.{Entry}
+use Rattle.checks.specs.Holds.{requestHolds}
+use Rattle.checks.specs.Refusals.{stopAs}
+use Rattle.machine.specs.Images.{piecesOf}
+use Rattle.machine.specs.Operations.{grant, namedEntry}
+use Rattle.machine.specs.Parts.{State}
+use Rattle.machine.specs.Requests.{dump, load, Request}
+use Rattle.machine.specs.Steps.{pass, Verdict, verdict}
+use Rattle.machine.specs.Stops.{places, textRead}
+use Rattle.table.specs.declared.state.StateWords.{StateWords}
+use Rattle.rulings.specs.Rulings.{fillingSo, refusing, verdictOn}
+use Rattle.rulings.specs.declared.reply.Outcome.{Outcome}
+use Rattle.images.specs.declared.segment.Imaged.{Imaged}
+use Rattle.images.specs.declared.segment.Imaged.the-variants as imaged
+use Rattle.images.specs.declared.segment.Segment.{Segment}
+use Rattle.images.specs.declared.segment.Segment.the-variants.{At, Stop}
+
+-- the checks came to the verdict v; a request that passes is of the segment of e
+abbrev pub Lies : Segment → Verdict → Entry → Type 0
+Lies (Stop why) v e = v ≡ stopAs why
+Lies (At a n) v e = (v ≡ pass) × ((a ≡ e .base) × (n ≡ e .length))
+
+-- places 7 and 8 of a load whose data end at so many bytes, whatever else it carries
+abbrev pub LoadRest : Segment → List ℕ → (token end : ℕ) → Type 0
+LoadRest r t k end =
+    (m u : ℕ) (s : State) (b : List ℕ) → farthest (piecesOf b) ≡ end → Lies r (verdict (places m s t (load k u) b .rest)) (namedEntry t k)
+
+-- all places but 1, 12 and 13, of one whose text reads well
+abbrev pub LoadToken : Segment → ℕ → List ℕ → (token task end : ℕ) → Type 0
+LoadToken r m t k u end =
+    (s : State) (b : List ℕ) → farthest (piecesOf b) ≡ end → verdict (textRead b) ≡ pass → requestHolds m s t (load k u) b ≡ true
+    → Lies r (verdictOn m s t (load k u) b) (namedEntry t k)
+
+-- places 7 and 14 of a dump into a buffer of so many bytes, and all but 1
+abbrev pub DumpRest : Segment → List ℕ → (token room : ℕ) → Type 0
+DumpRest r t k room =
+    (m u : ℕ) (s : State) (b : List ℕ) → length b ≡ room → Lies r (verdict (places m s t (dump k u) b .rest)) (namedEntry t k)
+
+abbrev pub DumpToken : Segment → ℕ → List ℕ → (token task room : ℕ) → Type 0
+DumpToken r m t k u room =
+    (s : State) (b : List ℕ) → length b ≡ room → requestHolds m s t (dump k u) b ≡ true → Lies r (verdictOn m s t (dump k u) b) (namedEntry t k)
+
+-- the request q came to the verdict, and if it passes to the length that its grant tells
+abbrev pub Comes : Imaged → ℕ → State → List ℕ → Request → List ℕ → Type 0
+Comes (imaged.Stop why) m s t q b = verdictOn m s t q b ≡ stopAs why
+Comes (imaged.Done n) m s t q b = (verdictOn m s t q b ≡ pass) × (n ≡ grant m t q b .length)
+
+-- what is handed back then
+abbrev pub telling : StateWords → Imaged → Outcome
+telling s (imaged.Stop why) = refusing s why
+telling s (imaged.Done n) = fillingSo s n
