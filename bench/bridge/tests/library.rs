@@ -4,7 +4,11 @@
 use std::os::unix::fs::PermissionsExt;
 use std::path::{Path, PathBuf};
 use std::process::{Command, Output};
+use std::sync::Mutex;
 use std::{env, fs, process};
+
+/// Held by each test: a script that one writes is not to be open in a process that another starts.
+static ALONE: Mutex<()> = Mutex::new(());
 
 /// A new folder for a test.
 fn folder(name: &str) -> PathBuf {
@@ -25,6 +29,7 @@ fn build(started: &Path, named: &str) -> Output {
 
 #[test]
 fn a_relative_folder_is_taken_from_where_cargo_was_started() {
+    let _alone = ALONE.lock();
     let folder = Path::new(env!("NORTHBRIDGE_ARCHIVE")).parent().expect("the library's folder");
     let above = folder.parent().expect("a folder above the library's");
     let name = folder.file_name().and_then(|name| name.to_str()).expect("a name in UTF-8");
@@ -34,6 +39,7 @@ fn a_relative_folder_is_taken_from_where_cargo_was_started() {
 
 #[test]
 fn a_folder_without_the_library_is_told_with_the_variable() {
+    let _alone = ALONE.lock();
     let built = build(&env::temp_dir(), "no/such/folder");
     let told = String::from_utf8_lossy(&built.stderr);
     assert!(!built.status.success());
@@ -88,6 +94,7 @@ fn build_library(root: &Path, fails: &str) -> (bool, String, String) {
 
 #[test]
 fn each_crate_is_told_when_it_is_proved() {
+    let _alone = ALONE.lock();
     let root = repository("told");
     let proves = "build-library: proves bits locks northbridge\n\
                   rt: check locks\nrt: staticlib northbridge\n";
@@ -108,6 +115,7 @@ fn each_crate_is_told_when_it_is_proved() {
 
 #[test]
 fn a_crate_that_is_not_proved_is_told_with_its_error() {
+    let _alone = ALONE.lock();
     let root = repository("failed");
     for _ in 0..2 {
         let (succeeded, out, error) = build_library(&root, "locks");
