@@ -1,8 +1,8 @@
 // References to a segment: derive, execute-only, clone, drop.
 use crate::state::State;
+use drops::drop::drop;
 use references::clone::clone;
 use references::derive::derive;
-use references::drop::drop;
 use references::execute_only::execute_only;
 use rulings::reply::Outcome;
 ghost use mathlib.Core.Path.{_≡_};

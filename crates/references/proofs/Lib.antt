@@ -1,5 +1,4 @@
 pub mod ChildLaws
 pub mod CloneLaws
 pub mod DeriveLaws
-pub mod DropLaws
 pub mod ExecuteOnlyLaws

@@ -1,6 +1,5 @@
-// Operations on references to a segment: derive, execute-only, clone, drop.
+// Operations on references to a segment: derive, execute-only, clone.
 mod child;
 pub mod clone;
 pub mod derive;
-pub mod drop;
 pub mod execute_only;

@@ -36,7 +36,7 @@ use Rattle.rulings.specs.Rulings.{granting, handed, plainly, tokensOn, verdictO
 use Rattle.rulings.specs.declared.reply.Outcome.{Outcome}
 use Rattle.rulings.proofs.AllotLaws.{request-limits}
 use Rattle.rulings.proofs.RulingLaws.{rest-alone, token-passes, tokens-passed}
-use Rattle.references.specs.Climbs.{Ahead, Climbed, climbed, Climbs, Onward, yet}
+use Rattle.drops.specs.Climbs.{Ahead, Climbed, climbed, Climbs, Onward, yet}
 
 -- ---- the climb
 

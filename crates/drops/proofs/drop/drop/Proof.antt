@@ -1,4 +1,4 @@
--- `references::drop::drop` meets its contract: it is decided by its verdict.
+-- `drops::drop::drop` meets its contract: it is decided by its verdict.
 -- Assumes nothing.
 use mathlib.Core.Path.{_≡_}
 use mathlib.Core.List.{[]}
@@ -12,8 +12,8 @@ use Rattle.machine.specs.Requests.{release}
 use Rattle.rulings.specs.Rulings.{verdictOn}
 use Rattle.table.specs.States.{stateAs}
 use Rattle.rulings.proofs.RulingLaws.{decided-pass, decided-stop}
-use Rattle.references.proofs.drop.drop.Statement.{statement}
-use Rattle.references.proofs.drop.drop.Tie as tie
+use Rattle.drops.proofs.drop.drop.Statement.{statement}
+use Rattle.drops.proofs.drop.drop.Tie as tie
 
 -- what the checks come to
 known : (c : tie.After-check-drop) (r : Formed) → c .check-drop .result ≡ r

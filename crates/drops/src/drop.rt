@@ -28,7 +28,7 @@ ghost use Rattle.machine.specs.Steps.{pass};
 ghost use Rattle.table.specs.States.{stateAs};
 ghost use Rattle.tokens.specs.Token as tokens;
 ghost use Rattle.rulings.specs.Rulings.{granting, handed, rulingOn, verdictOn};
-ghost use Rattle.references.specs.Climbs.{Climbed, Climbs};
+ghost use Rattle.drops.specs.Climbs.{Climbed, Climbs};
 
 // The calls that a call of `climb` may nest: so few that a processor predicts each return, and that
 // the stack stays small however long the line is.

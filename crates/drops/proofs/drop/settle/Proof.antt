@@ -1,10 +1,10 @@
--- `references::drop::settle` meets its contract: a direct entry stays.
+-- `drops::drop::settle` meets its contract: a direct entry stays.
 -- Assumes nothing.
 use native.Mathlib.Omega.{arith}
 use borrow.Author.Needs.{needs}
-use Rattle.references.proofs.DropLaws.{climb-direct, direct-some}
-use Rattle.references.proofs.drop.settle.Statement.{statement}
-use Rattle.references.proofs.drop.settle.Tie as tie
+use Rattle.drops.proofs.DropLaws.{climb-direct, direct-some}
+use Rattle.drops.proofs.drop.settle.Statement.{statement}
+use Rattle.drops.proofs.drop.settle.Tie as tie
 
 pub settle-spec : {M : Type 1} → statement M
 settle-spec =

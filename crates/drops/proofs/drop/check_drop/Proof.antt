@@ -1,4 +1,4 @@
--- `references::drop::check_drop` meets its contract: a law for each way out.
+-- `drops::drop::check_drop` meets its contract: a law for each way out.
 -- Assumes nothing.
 use mathlib.Core.Path.{_≡_, sym, _∙_}
 use mathlib.Core.Bool.{Bool, _&&_}
@@ -14,9 +14,9 @@ use Rattle.checks.specs.declared.reach.Formed.{Formed}
 use Rattle.checks.proofs.ReachLaws.{formed-in}
 use Rattle.table.specs.States.{stateAs}
 use Rattle.rulings.proofs.RulingLaws.{request-stops, token-stops}
-use Rattle.references.proofs.DropLaws.{drop-count, drop-pass, drop-request, drop-token}
-use Rattle.references.proofs.drop.check_drop.Statement.{statement}
-use Rattle.references.proofs.drop.check_drop.Tie as tie
+use Rattle.drops.proofs.DropLaws.{drop-count, drop-pass, drop-request, drop-token}
+use Rattle.drops.proofs.drop.check_drop.Statement.{statement}
+use Rattle.drops.proofs.drop.check_drop.Tie as tie
 
 -- place 1, as the test says, and what the token comes to
 asked : (c : tie.After-settings) (b : Bool) → (c .settings .result && eqb (c .before .before .args .named .offset) 0) ≡ b

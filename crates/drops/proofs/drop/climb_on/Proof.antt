@@ -1,12 +1,12 @@
--- `references::drop::climb_on` meets its contract. The loop's invariant: so far the climb has come. The nonce falls with each turn.
+-- `drops::drop::climb_on` meets its contract. The loop's invariant: so far the climb has come. The nonce falls with each turn.
 -- Assumes nothing.
 use mathlib.Core.Path.{_≡_, refl}
 use lib.ListN.{length}
 use borrow.Author.Needs.{needs}
-use Rattle.references.specs.Climbs.{Ahead, yet}
-use Rattle.references.proofs.DropLaws.{ahead-next, ahead-on, yet-less}
-use Rattle.references.proofs.drop.climb_on.Statement.{statement}
-use Rattle.references.proofs.drop.climb_on.Tie as tie
+use Rattle.drops.specs.Climbs.{Ahead, yet}
+use Rattle.drops.proofs.DropLaws.{ahead-next, ahead-on, yet-less}
+use Rattle.drops.proofs.drop.climb_on.Statement.{statement}
+use Rattle.drops.proofs.drop.climb_on.Tie as tie
 
 abbrev Inv-loop : tie.InvT-loop
 Inv-loop table₀ n next₀ table next = (length table ≡ length table₀) × Ahead table₀ n table next

@@ -1,9 +1,9 @@
--- `references::drop::grant_drop` meets its contract: a law for each way out.
+-- `drops::drop::grant_drop` meets its contract: a law for each way out.
 -- Assumes nothing.
 use borrow.Author.Needs.{needs}
-use Rattle.references.proofs.DropLaws.{drop-in, drop-kept, drop-more, drop-one}
-use Rattle.references.proofs.drop.grant_drop.Statement.{statement}
-use Rattle.references.proofs.drop.grant_drop.Tie as tie
+use Rattle.drops.proofs.DropLaws.{drop-in, drop-kept, drop-more, drop-one}
+use Rattle.drops.proofs.drop.grant_drop.Statement.{statement}
+use Rattle.drops.proofs.drop.grant_drop.Tie as tie
 
 pub grant-drop-spec : {M : Type 1} → statement M
 grant-drop-spec =

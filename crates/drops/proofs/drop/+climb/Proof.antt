@@ -1,4 +1,4 @@
--- `references::drop::climb` meets its contract: one law for each way out. The calls that are left fall at each call.
+-- `drops::drop::climb` meets its contract: one law for each way out. The calls that are left fall at each call.
 -- Assumes nothing.
 use Prim.Native.Nat.{ℕ, _+_, _*_, _≤_, _<_}
 use native.Mathlib.Omega.{arith}
@@ -12,12 +12,12 @@ use Rattle.table.proofs.line.linked.Reads as linked-reads
 use Rattle.table.proofs.line.parent_number.Reads as parent-number-reads
 use Rattle.issuing.proofs.writes.recount.Reads as recount-reads
 use Rattle.issuing.proofs.writes.vacate.Reads as vacate-reads
-use Rattle.references.proofs.DropLaws.{climb-ended, climb-freed, climb-in, climb-less, climb-next, climb-none, climb-up}
-use Rattle.references.proofs.drop.climb.Reads as climb
-use Rattle.references.proofs.drop.climb.Kinds as climb-kinds
-use Rattle.references.proofs.drop.+climb.Lts-climb as climb-lts
-use Rattle.references.proofs.drop.+climb.{statement}
-use Rattle.references.proofs.drop.+climb.Tie.{close}
+use Rattle.drops.proofs.DropLaws.{climb-ended, climb-freed, climb-in, climb-less, climb-next, climb-none, climb-up}
+use Rattle.drops.proofs.drop.climb.Reads as climb
+use Rattle.drops.proofs.drop.climb.Kinds as climb-kinds
+use Rattle.drops.proofs.drop.+climb.Lts-climb as climb-lts
+use Rattle.drops.proofs.drop.+climb.{statement}
+use Rattle.drops.proofs.drop.+climb.Tie.{close}
 
 abbrev μ-climb : Measures 1 climb-kinds.ps ℕ
 μ-climb κs a = a .1 .1 .0
