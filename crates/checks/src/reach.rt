@@ -2,7 +2,7 @@
 use crate::refusal::Bad;
 use crate::refusal::Refusal;
 use crate::refusal::told;
-use layout::form::ill_formed;
+use forms::form::ill_formed;
 use table::entries::entry_at;
 use table::line::Line;
 use table::line::walk;

@@ -1,9 +1,9 @@
 // Issues: an entry gets its tag under its number. It is handled as its four words.
 use layout::entry::Words;
-use layout::tag::stamped;
-use layout::tag::tag;
 use table::entries::put_words;
 use table::state::StateWords;
+use tags::tag::stamped;
+use tags::tag::tag;
 use tokens::token::token_of;
 ghost use mathlib.Core.Path.{_≡_};
 ghost use Prim.Native.Nat.{_+_, _*_, _-_, _≤_, _<_};

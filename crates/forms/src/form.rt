@@ -1,9 +1,9 @@
 // Which entries are ill-formed in a memory of so many bytes.
-use crate::entry::Entry;
+use layout::entry::Entry;
 use tokens::token::encoding;
 ghost use mathlib.Core.Bool.{false};
 ghost use mathlib.Core.Path.{_≡_};
 ghost use Rattle.layout.specs.Form.{faultsOf, illFormed, orSome};
 
 fn ill_direct(memory: u64, e: Entry) -> bool
     ensures { λ r. ⌜ r ≡ orSome false (faultsOf 1 memory e) ⌝ }

@@ -1,10 +1,10 @@
--- `layout::form::ill_formed` meets its contract: the type picks the cases.
+-- `forms::form::ill_formed` meets its contract: the type picks the cases.
 -- Assumes nothing.
 use mathlib.Core.Path.{refl, sym, _∙_}
 use borrow.Author.Needs.{needs}
 use Rattle.layout.proofs.FormLaws.{ill-as, ill-above}
-use Rattle.layout.proofs.form.ill_formed.Statement.{statement}
-use Rattle.layout.proofs.form.ill_formed.Tie as tie
+use Rattle.forms.proofs.form.ill_formed.Statement.{statement}
+use Rattle.forms.proofs.form.ill_formed.Tie as tie
 
 pub ill-formed-spec : {M : Type 1} → statement M
 ill-formed-spec =

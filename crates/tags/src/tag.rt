@@ -1,15 +1,15 @@
 // Tags: SipHash-2-4 over an entry and its number.
-use crate::entry::Words;
 use bits::siphash::compress;
 use bits::siphash::finish;
 use bits::siphash::start;
 use bits::word::swapped;
+use layout::entry::Words;
 ghost use mathlib.Core.Path.{_≡_};
 ghost use mathlib.Core.List.{[], _∷_};
 ghost use Prim.Native.Nat.{_/_, _^_};
 ghost use Rattle.bits.specs.Fields.{pack};
 ghost use Rattle.layout.specs.Entry.{dated, entryNumber, entryOf, Laid, wordsNumber};
 ghost use Rattle.layout.specs.Tag.{retag, TagFor};
 
 // The last word of an entry with another tag and nonce, its low 48 bits.
 fn with_tag(word: u64, tag: u16, nonce: u32) -> u64

@@ -1,12 +1,12 @@
--- `layout::tag::tag` meets its contract: the five words are those of the 40 bytes.
+-- `tags::tag::tag` meets its contract: the five words are those of the 40 bytes.
 -- Assumes nothing.
 use borrow.Author.Needs.{needs}
 use Prim.Native.Nat.{_<_, _^_}
 use Rattle.layout.specs.Entry.{wordList, wordWidths}
 use Rattle.bits.specs.Fields.{Fit}
-use Rattle.layout.proofs.TagLaws.{hash-tag}
-use Rattle.layout.proofs.tag.tag.Statement.{statement}
-use Rattle.layout.proofs.tag.tag.Tie as tie
+use Rattle.tags.proofs.TagLaws.{hash-tag}
+use Rattle.tags.proofs.tag.tag.Statement.{statement}
+use Rattle.tags.proofs.tag.tag.Tie as tie
 
 fit : (c : tie.Start) → Fit wordWidths (wordList (c .args .w))
 fit c = search needs

@@ -1,8 +1,8 @@
--- `layout::form::ill_indirect` meets its contract: the same cases.
+-- `forms::form::ill_indirect` meets its contract: the same cases.
 -- Assumes nothing.
 use borrow.Author.Needs.{needs}
-use Rattle.layout.proofs.form.ill_indirect.Statement.{statement}
-use Rattle.layout.proofs.form.ill_indirect.Tie as tie
+use Rattle.forms.proofs.form.ill_indirect.Statement.{statement}
+use Rattle.forms.proofs.form.ill_indirect.Tie as tie
 
 pub ill-indirect-spec : {M : Type 1} → statement M
 ill-indirect-spec =

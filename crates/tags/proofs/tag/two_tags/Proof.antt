@@ -1,12 +1,12 @@
--- `layout::tag::two_tags` meets its contract: each hash has its own five words, as in `tag`.
+-- `tags::tag::two_tags` meets its contract: each hash has its own five words, as in `tag`.
 -- Assumes nothing.
 use borrow.Author.Needs.{needs}
 use Prim.Native.Nat.{_<_, _^_}
 use Rattle.layout.specs.Entry.{wordList, wordWidths}
 use Rattle.bits.specs.Fields.{Fit}
-use Rattle.layout.proofs.TagLaws.{hash-tag}
-use Rattle.layout.proofs.tag.two_tags.Statement.{statement}
-use Rattle.layout.proofs.tag.two_tags.Tie as tie
+use Rattle.tags.proofs.TagLaws.{hash-tag}
+use Rattle.tags.proofs.tag.two_tags.Statement.{statement}
+use Rattle.tags.proofs.tag.two_tags.Tie as tie
 
 fits : (c : tie.Start) → Fit wordWidths (wordList (c .args .w)) × Fit wordWidths (wordList (c .args .v))
 fits c = (search needs, search needs)

@@ -1,9 +1,9 @@
--- `layout::tag::stamped` meets its contract: tag and nonce stand at the end of the last word.
+-- `tags::tag::stamped` meets its contract: tag and nonce stand at the end of the last word.
 -- Assumes nothing.
 use borrow.Author.Needs.{needs}
-use Rattle.layout.proofs.RetagLaws.{stamp-words}
-use Rattle.layout.proofs.tag.stamped.Statement.{statement}
-use Rattle.layout.proofs.tag.stamped.Tie as tie
+use Rattle.tags.proofs.RetagLaws.{stamp-words}
+use Rattle.tags.proofs.tag.stamped.Statement.{statement}
+use Rattle.tags.proofs.tag.stamped.Tie as tie
 
 pub stamped-spec : {M : Type 1} → statement M
 stamped-spec =

@@ -1,0 +1,2 @@
+// Which entries are ill-formed.
+pub mod form;

@@ -1,0 +1,2 @@
+pub mod RetagLaws
+pub mod TagLaws

@@ -1,0 +1,2 @@
+// Tags of entries.
+pub mod tag;
