@@ -1,12 +1,15 @@
 -- A message for SipHash is its whole words, and then one word of what is left, null bytes and the length.
 -- Assumes nothing.
-use mathlib.Core.Path.{_≡_, refl, ap, ap₂, _∙_}
+use mathlib.Core.Path.{_≡_, refl, sym, ap, ap₂, _∙_, subst}
 use mathlib.Core.List.{List, [], _∷_, _++_}
-use Prim.Native.Nat.{ℕ, zero, suc, _+_, _-_, _*_, _/_, _%_, _≤_}
-use native.Mathlib.Nat.{add-sub-cancel-left, sub-zero, suc-sub-suc}
+use Prim.Native.Nat.{ℕ, zero, suc, _+_, _-_, _*_, _/_, _%_, _^_, _≤_, _<_}
+use native.Mathlib.Nat.{add-sub-cancel-left, add-zero, mul-mod-left, sub-zero, suc-sub-suc}
 use native.Mathlib.Numerals.{add-one}
 use native.Mathlib.Omega.{arith}
 use lib.ListN.{length, getD, take, drop, replicate, length-append, length-drop, length-replicate}
+use lib.Arith.{mod-mul}
+use lib.Bits.{bitOr, or-shifted}
+use lib.Pow.{pow-add, pow-pos, shl-shr, shr-lt}
 use lib.Seq.{take-all, take-append-le, drop-append-le}
 use Rattle.bits.specs.Bytes.{lowNumber, number}
 use Rattle.bits.specs.SipHash.{absorb, add64, compress, finish, padded, rotl, siphash, sipRound, start, word}
@@ -61,6 +64,20 @@ pub absorb-more : (i m : ℕ) (s : List ℕ) (v : Lanes) {w x : Lanes} → w ≡
     → m ≡ lowNumber 8 (take (8 * i + 8 - 8 * i) (drop (8 * i) s)) → x ≡ compress w m → x ≡ absorb (i + 1) s v
 unfolding absorb word
 absorb-more i m s v p q r = rw add-one (r ∙ ap₂ compress p (rw add-sub-cancel-left at q))
+
+-- a word turned left is its two shifts joined by "or"
+pub turned : (x k : ℕ) → x < 2 ^ 64 → k < 64 → bitOr (x * 2 ^ k % 2 ^ 64) (x / 2 ^ (64 - k)) ≡ rotl x k
+unfolding rotl
+turned x k h l =
+    let whole : 64 ≡ 64 - k + k = omega arith in
+    let room : 64 ≡ k + (64 - k) = omega arith in
+    let up : x * 2 ^ k % 2 ^ 64 ≡ x % 2 ^ (64 - k) * 2 ^ k
+    = ap (λ (w : ℕ). x * 2 ^ k % 2 ^ w) whole ∙ ap (λ (p : ℕ). x * 2 ^ k % p) (pow-add 2 (64 - k) k)
+    ∙ mod-mul (x * 2 ^ k) (pow-pos (64 - k)) (pow-pos k)
+    ∙ ap₂ (λ (a b : ℕ). a % 2 ^ (64 - k) * 2 ^ k + b) (shl-shr x k) (mul-mod-left x (2 ^ k))
+    ∙ add-zero (x % 2 ^ (64 - k) * 2 ^ k) in
+    let below = shr-lt k (64 - k) (subst (λ (w : ℕ). x < 2 ^ w) room h) in
+    ap (λ (a : ℕ). bitOr a (x / 2 ^ (64 - k))) up ∙ or-shifted (x % 2 ^ (64 - k)) k (x / 2 ^ (64 - k)) below
 
 -- the vector of the authors' paper: the message 00 01 .. 0e under the key 00 01 .. 0f
 vector : siphash 0x0706050403020100 0x0f0e0d0c0b0a0908 (tabulate 15 (λ i. i)) ≡ 0xa129ca6149be45e5

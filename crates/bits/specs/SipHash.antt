@@ -3,7 +3,7 @@
 use mathlib.Core.List.{List, [], _∷_, _++_}
 use Prim.Native.Nat.{ℕ, zero, suc, _+_, _-_, _*_, _/_, _%_, _^_}
 use lib.ListN.{length, take, drop, replicate}
-use lib.Bits.{bitXor, bitOr}
+use lib.Bits.{bitXor}
 use Rattle.bits.specs.Bytes.{lowNumber}
 use Rattle.bits.specs.declared.siphash.Lanes.{Lanes}
 
@@ -11,9 +11,9 @@ use Rattle.bits.specs.declared.siphash.Lanes.{Lanes}
 unfoldable pub add64 : ℕ → ℕ → ℕ
 add64 a b = (a + b) % 2 ^ 64
 
--- x turned left by k of its 64 bits
+-- x turned left by k of its 64 bits: its high k bits come below the others
 unfoldable pub rotl : ℕ → ℕ → ℕ
-rotl x k = bitOr (x * 2 ^ k % 2 ^ 64) (x / 2 ^ (64 - k))
+rotl x k = x % 2 ^ (64 - k) * 2 ^ k + x / 2 ^ (64 - k)
 
 -- a SipRound
 unfoldable pub sipRound : Lanes → Lanes

@@ -1,13 +1,12 @@
 -- `bits::siphash::rotate_left` meets its contract: the two shifts are the two parts of the definition.
 -- Assumes nothing.
 use borrow.Author.Needs.{needs}
-use Rattle.bits.specs.SipHash.{rotl}
+use Rattle.bits.proofs.SipLaws.{turned}
 use Rattle.bits.proofs.siphash.rotate_left.Statement.{statement}
 use Rattle.bits.proofs.siphash.rotate_left.Tie as tie
 
 returns : tie.Need-returns
-unfolding rotl
-returns c = search needs
+returns c = search (needs, turned)
 
 pub rotate-left-spec : {M : Type 1} → statement M
 rotate-left-spec =
