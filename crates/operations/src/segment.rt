@@ -1,8 +1,8 @@
 // Whole segments: reset, create, merge, revoke.
 use crate::state::State;
+use merges::merge::merge;
 use rulings::reply::Outcome;
 use segments::create::create;
-use segments::merge::merge;
 use segments::reset::reset;
 use segments::revoke::revoke;
 ghost use mathlib.Core.Path.{_≡_};

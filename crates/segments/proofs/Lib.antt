@@ -1,5 +1,4 @@
 pub mod CreateLaws
-pub mod MergeLaws
 pub mod ResetLaws
 pub mod RevokeLaws
 pub mod SegmentLaws

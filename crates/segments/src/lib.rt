@@ -1,5 +1,4 @@
-// Operations on whole segments: reset, create, merge, revoke.
+// Operations on whole segments: reset, create, revoke.
 pub mod create;
-pub mod merge;
 pub mod reset;
 pub mod revoke;

@@ -1,4 +1,4 @@
--- `segments::merge::check_merge` meets its contract: a law for each way out.
+-- `merges::merge::check_merge` meets its contract: a law for each way out.
 -- Assumes nothing.
 use mathlib.Core.Path.{_≡_, sym, _∙_, ap}
 use mathlib.Core.Bool.{Bool, _&&_}
@@ -13,9 +13,9 @@ use Rattle.table.specs.States.{stateAs}
 use Rattle.rulings.specs.Rulings.{checkedAs, tokensOn}
 use Rattle.rulings.specs.declared.reply.Checked.{Checked}
 use Rattle.rulings.proofs.RulingLaws.{request-stops, token-passes, token-stops}
-use Rattle.segments.proofs.MergeLaws.{both-in, merge-request}
-use Rattle.segments.proofs.merge.check_merge.Statement.{statement}
-use Rattle.segments.proofs.merge.check_merge.Tie as tie
+use Rattle.merges.proofs.MergeLaws.{both-in, merge-request}
+use Rattle.merges.proofs.merge.check_merge.Statement.{statement}
+use Rattle.merges.proofs.merge.check_merge.Tie as tie
 
 -- place 1, as the test says, and what the tokens come to
 asked : (c : tie.After-settings) (b : Bool) → let a = c .before .before .before .before .args in

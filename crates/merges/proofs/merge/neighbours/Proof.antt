@@ -1,10 +1,10 @@
--- `segments::merge::neighbours` meets its contract: one law for each way out.
+-- `merges::merge::neighbours` meets its contract: one law for each way out.
 -- Assumes nothing.
 use borrow.Author.Needs.{needs}
 use borrow.Author.Tests.{not-false, not-true}
-use Rattle.segments.proofs.MergeLaws.{neighbour-bounds, neighbour-kind, neighbour-pass, neighbour-spent, neighbour-standing}
-use Rattle.segments.proofs.merge.neighbours.Statement.{statement}
-use Rattle.segments.proofs.merge.neighbours.Tie as tie
+use Rattle.merges.proofs.MergeLaws.{neighbour-bounds, neighbour-kind, neighbour-pass, neighbour-spent, neighbour-standing}
+use Rattle.merges.proofs.merge.neighbours.Statement.{statement}
+use Rattle.merges.proofs.merge.neighbours.Tie as tie
 
 pub neighbours-spec : {M : Type 1} → statement M
 neighbours-spec =

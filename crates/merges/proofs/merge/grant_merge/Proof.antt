@@ -1,12 +1,12 @@
--- `segments::merge::grant_merge` meets its contract: sums, numbers and the nonce fit.
+-- `merges::merge::grant_merge` meets its contract: sums, numbers and the nonce fit.
 -- Assumes nothing.
 use native.Mathlib.Omega.{arith}
 use borrow.Author.Needs.{needs}
 use Rattle.layout.specs.Entry.{entryOf, wordsNumber}
 use Rattle.table.specs.States.{stateAs}
-use Rattle.segments.proofs.MergeLaws.{merge-grants, Mergeable, mergeable}
-use Rattle.segments.proofs.merge.grant_merge.Statement.{statement}
-use Rattle.segments.proofs.merge.grant_merge.Tie as tie
+use Rattle.merges.proofs.MergeLaws.{merge-grants, Mergeable, mergeable}
+use Rattle.merges.proofs.merge.grant_merge.Statement.{statement}
+use Rattle.merges.proofs.merge.grant_merge.Tie as tie
 
 -- what the pass says
 pass : (c : tie.Start) → let a = c .args in Mergeable (stateAs (a .s)) (a .table .now) (a .n) (a .k) (a .encoding)

@@ -1,4 +1,4 @@
--- `segments::merge::merge` meets its contract: it is decided by its verdict.
+-- `merges::merge::merge` meets its contract: it is decided by its verdict.
 -- Assumes nothing.
 use mathlib.Core.Path.{_≡_}
 use mathlib.Core.List.{[]}
@@ -8,10 +8,10 @@ use Rattle.machine.specs.Requests as request
 use Rattle.table.specs.States.{stateAs}
 use Rattle.rulings.specs.Rulings.{verdictOn}
 use Rattle.rulings.proofs.RulingLaws.{decided-pass, decided-stop}
-use Rattle.segments.specs.Neighbours.{Pairs}
-use Rattle.segments.specs.declared.merge.Pair.{Pair}
-use Rattle.segments.proofs.merge.merge.Statement.{statement}
-use Rattle.segments.proofs.merge.merge.Tie as tie
+use Rattle.merges.specs.Neighbours.{Pairs}
+use Rattle.merges.specs.declared.merge.Pair.{Pair}
+use Rattle.merges.proofs.merge.merge.Statement.{statement}
+use Rattle.merges.proofs.merge.merge.Tie as tie
 
 -- what the checks come to
 checked : (c : tie.After-check-merge) (r : Pair) → c .check-merge .result ≡ r

@@ -1,4 +1,4 @@
--- `segments::merge::reach_both` meets its contract: one law for each way out.
+-- `merges::merge::reach_both` meets its contract: one law for each way out.
 -- Assumes nothing.
 use mathlib.Core.Path.{_≡_, sym, _∙_}
 use borrow.Author.Needs.{needs}
@@ -6,9 +6,9 @@ use Rattle.checks.specs.Reached.{Reaches, reachVerdict}
 use Rattle.checks.specs.declared.reach.Reached.{Reached}
 use Rattle.machine.specs.Line.{lineOf}
 use Rattle.machine.specs.Operations.{numberOf}
-use Rattle.segments.proofs.MergeLaws.{both-first, both-second}
-use Rattle.segments.proofs.merge.reach_both.Statement.{statement}
-use Rattle.segments.proofs.merge.reach_both.Tie as tie
+use Rattle.merges.proofs.MergeLaws.{both-first, both-second}
+use Rattle.merges.proofs.merge.reach_both.Statement.{statement}
+use Rattle.merges.proofs.merge.reach_both.Tie as tie
 
 -- what each token comes to
 first : (c : tie.After-opens) (r : Reached) → c .opens .result ≡ r

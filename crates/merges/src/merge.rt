@@ -29,7 +29,7 @@ ghost use Rattle.machine.specs.Steps.{pass};
 ghost use Rattle.table.specs.States.{stateAs};
 ghost use Rattle.tokens.specs.Token as tokens;
 ghost use Rattle.rulings.specs.Rulings.{checkedAs, granting, handed, restOn, rulingOn, tokensOn, verdictOn};
-ghost use Rattle.segments.specs.Neighbours.{Pairs};
+ghost use Rattle.merges.specs.Neighbours.{Pairs};
 
 // What the checks of a merge come to: where it stops, or the numbers of both entries.
 pub enum Pair {

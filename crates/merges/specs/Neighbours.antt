@@ -5,8 +5,8 @@ use Prim.Native.Nat.{ℕ}
 use Rattle.checks.specs.Refusals.{stopAs}
 use Rattle.machine.specs.Operations.{numberOf}
 use Rattle.machine.specs.Steps.{pass, Verdict}
-use Rattle.segments.specs.declared.merge.Pair.{Pair}
-use Rattle.segments.specs.declared.merge.Pair.the-variants.{Numbers, Stop}
+use Rattle.merges.specs.declared.merge.Pair.{Pair}
+use Rattle.merges.specs.declared.merge.Pair.the-variants.{Numbers, Stop}
 
 -- the verdict v; where it passes, the numbers that the tokens name
 abbrev pub Pairs : (first second : ℕ) → Pair → Verdict → Type 0

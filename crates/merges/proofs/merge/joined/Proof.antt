@@ -1,10 +1,10 @@
--- `segments::merge::joined` meets its contract: what both permit is no more than what the first does.
+-- `merges::merge::joined` meets its contract: what both permit is no more than what the first does.
 -- Assumes nothing.
 use native.Mathlib.Omega.{arith}
 use lib.Bits.{and-le-l}
 use borrow.Author.Needs.{needs}
-use Rattle.segments.proofs.merge.joined.Statement.{statement}
-use Rattle.segments.proofs.merge.joined.Tie as tie
+use Rattle.merges.proofs.merge.joined.Statement.{statement}
+use Rattle.merges.proofs.merge.joined.Tie as tie
 
 pub joined-spec : {M : Type 1} → statement M
 joined-spec =
