@@ -3,7 +3,7 @@
  *
  * The library keeps nothing between two calls, allocates nothing, does no input or output, and calls nothing but memset and memmove.
  * What it returns and each byte that it leaves in the slices lent to it is fixed, whatever they hold, by the definition `exported` in
- * crates/northbridge/specs/Exported.antt, which the code is proved to meet.
+ * crates/interface/specs/Exported.antt, which the code is proved to meet.
  */
 #ifndef NORTHBRIDGE_H
 #define NORTHBRIDGE_H

@@ -11,8 +11,8 @@ use Rattle.machine.specs.Stops.{atRequest}
 use Rattle.machine.proofs.Decided.{tells}
 use Rattle.machine.proofs.Refused.{refused-keeps, refused-tells}
 use Rattle.demands.specs.Demands.{after, asks, Brought, callOf, Demand1, Demand2, machine, Safe, Standing}
-use Rattle.northbridge.specs.Exported.{answerSize, Asked, carried, known, served, told, unknown}
-use Rattle.northbridge.proofs.CallLaws.{known-sizes}
+use Rattle.interface.specs.Exported.{answerSize, Asked, carried, known, served, told, unknown}
+use Rattle.interface.proofs.CallLaws.{known-sizes}
 use Rattle.demands.proofs.Listed.{called-as, requested-alone, state-kept, tracks, Whole, whole-bytes}
 
 -- ---- demand 1

@@ -25,7 +25,7 @@ use Rattle.machine.specs.Writes.{Name}
 use Rattle.bits.proofs.ByteLists.{bytes-zeros}
 use Rattle.demands.specs.Demands.{after, asks, Brought, Copies, Demand3, Grants, next, Shut, Standing}
 use Rattle.demands.specs.Example.{before, broken, child, derives, First, first, listOf, locks7, Premises, reads8, resets1, revokes}
-use Rattle.northbridge.specs.Exported.{Asked, asked, exported, known, picked, told, unknown, wordBytes}
+use Rattle.interface.specs.Exported.{Asked, asked, exported, known, picked, told, unknown, wordBytes}
 use Rattle.demands.proofs.Secrecy.{secrecy}
 
 -- ---- what is needed to see it

@@ -21,9 +21,9 @@ use Rattle.machine.specs.Steps as steps
 use Rattle.machine.specs.Steps.{Machine, run, step}
 use Rattle.machine.proofs.Settled.{keys, KeysFit, none, StateFits, words-stay}
 use Rattle.demands.specs.Demands.{after, asks, Brought, Bytes, call, callOf, joined, leftBy, machine, next, requested, Standing}
-use Rattle.northbridge.specs.Exported.{Asked, asked, carried, Exported, exported, known, picked, requests, served, stateBytes, stateOf, stateSize, unknown}
-use Rattle.northbridge.proofs.CallLaws.{request-sized}
-use Rattle.northbridge.proofs.WordLaws.{length-word-bytes, word-lt, word-of, words-kept}
+use Rattle.interface.specs.Exported.{Asked, asked, carried, Exported, exported, known, picked, requests, served, stateBytes, stateOf, stateSize, unknown}
+use Rattle.interface.proofs.CallLaws.{request-sized}
+use Rattle.interface.proofs.WordLaws.{length-word-bytes, word-lt, word-of, words-kept}
 
 -- ---- a state and its bytes
 

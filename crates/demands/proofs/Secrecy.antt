@@ -24,10 +24,10 @@ use Rattle.machine.proofs.Decided.{accepted, away, taken, Turned, turned}
 use Rattle.machine.proofs.Given.{given}
 use Rattle.machine.proofs.Theorem.{demand3}
 use Rattle.demands.specs.Demands.{after, asks, Back, backBy, backs, Brought, Bytes, call, callOf, Copies, Demand3, FirstRevoke, givenBy, givenIn, gives, joined, machine, Never, next, rootIn, Secret, Shut, Standing, tokensIn, Without}
-use Rattle.northbridge.specs.Exported.{answerBytes, Asked, carried, Exported, known, stateBytes, stateOf, told, unknown, wordBytes}
-use Rattle.northbridge.proofs.CallLaws.{known-sizes}
+use Rattle.interface.specs.Exported.{answerBytes, Asked, carried, Exported, known, stateBytes, stateOf, told, unknown, wordBytes}
+use Rattle.interface.proofs.CallLaws.{known-sizes}
 use Rattle.demands.proofs.Listed.{ask, asks-alone, by-calls, bytes-append, bytes-parts, called-as, first, Kind, kind-of, other, requests-append, requestsOf, steps-to, Tracked, tracks, Whole, whole-bytes}
-use Rattle.northbridge.proofs.WordLaws.{word-of}
+use Rattle.interface.proofs.WordLaws.{word-of}
 
 -- ---- one call
 

@@ -21,7 +21,7 @@ use Rattle.machine.specs.Requests.{access, Call, Request, taskOf, Way}
 use Rattle.machine.specs.Steps as steps
 use Rattle.machine.specs.Steps.{Machine, run, step}
 use Rattle.machine.specs.Writes.{Name}
-use Rattle.northbridge.specs.Exported.{answerSize, Asked, asked, Exported, exported, known, served, stateOf, stateSize, unknown, wordBytes}
+use Rattle.interface.specs.Exported.{answerSize, Asked, asked, Exported, exported, known, served, stateOf, stateSize, unknown, wordBytes}
 
 -- ---- calls
 

@@ -9,7 +9,7 @@ use Rattle.bits.specs.Bytes.{AllBytes}
 use Rattle.machine.specs.Parts.{at}
 use Rattle.machine.specs.Writes.{Name}
 use Rattle.demands.specs.Demands.{after, Brought, Bytes, FirstRevoke, givenIn, gives, Grants, machine, Never, next, Standing, Without}
-use Rattle.northbridge.specs.Exported.{wordBytes}
+use Rattle.interface.specs.Exported.{wordBytes}
 
 -- ---- the premises of demand 3, in one place
 

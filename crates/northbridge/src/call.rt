@@ -1,21 +1,21 @@
 // A call: its request is carried out, or the call is refused as broken.
-use crate::answer::ANSWER_SIZE;
-use crate::answer::write_answer;
-use crate::request::Asked;
-use crate::request::REQUEST_SIZE;
-use crate::request::request_of;
-use crate::state::STATE_SIZE;
-use crate::state::read_state;
-use crate::state::write_state;
 use checks::refusal::Refusal;
+use interface::answer::ANSWER_SIZE;
+use interface::answer::write_answer;
+use interface::request::Asked;
+use interface::request::REQUEST_SIZE;
+use interface::request::request_of;
+use interface::state::STATE_SIZE;
+use interface::state::read_state;
+use interface::state::write_state;
 use operations::serve::Request;
 use operations::state::State;
 use rulings::reply::Reply;
 ghost use mathlib.Core.Path.{_≡_};
 ghost use lib.ListN.{length};
 ghost use Rattle.operations.specs.Turns.{requestAs};
-ghost use Rattle.northbridge.specs.Exported.{answerSize, asked, carried, known, stateSize, told};
-ghost use Rattle.northbridge.specs.Meanings.{askedAs, left};
+ghost use Rattle.interface.specs.Exported.{answerSize, asked, carried, known, stateSize, told};
+ghost use Rattle.interface.specs.Meanings.{askedAs, left};
 
 // The request, if request, state and answer have their sizes.
 pub(crate) fn asked_of(request: &[u8], state: &[u8], answer: &[u8]) -> Asked

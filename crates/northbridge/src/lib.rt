@@ -1,17 +1,13 @@
 // The northbridge for C and Rust: one function over six lent slices.
-mod answer;
 mod call;
-mod request;
-mod state;
-mod words;
 
 use crate::call::asked_of;
 use crate::call::carry_out;
 use crate::call::refuse;
-use crate::request::Asked;
+use interface::request::Asked;
 ghost use mathlib.Core.Path.{_≡_};
-ghost use Rattle.northbridge.specs.Exported.{exported};
-ghost use Rattle.northbridge.specs.Meanings.{left};
+ghost use Rattle.interface.specs.Exported.{exported};
+ghost use Rattle.interface.specs.Meanings.{left};
 
 // Serves the request, whatever the slices hold, and returns its refusal (0 granted).
 #[no_mangle]

@@ -2,8 +2,8 @@
 -- Assumes nothing.
 use mathlib.Core.Path.{sym, _∙_, ap}
 use borrow.Author.Needs.{needs}
-use Rattle.northbridge.specs.Meanings.{askedAs}
-use Rattle.northbridge.proofs.CallLaws.{exported-as, known-sizes}
+use Rattle.interface.specs.Meanings.{askedAs}
+use Rattle.interface.proofs.CallLaws.{exported-as, known-sizes}
 use Rattle.northbridge.proofs.northbridge_serve.Statement.{statement}
 use Rattle.northbridge.proofs.northbridge_serve.Tie as tie
 

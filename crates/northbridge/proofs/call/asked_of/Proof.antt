@@ -1,7 +1,7 @@
 -- `northbridge::call::asked_of` meets its contract: the sizes pick the answer.
 -- Assumes nothing.
-use Rattle.northbridge.specs.Exported.{asked}
-use Rattle.northbridge.proofs.CallLaws.{sizes}
+use Rattle.interface.specs.Exported.{asked}
+use Rattle.interface.proofs.CallLaws.{sizes}
 use Rattle.northbridge.proofs.call.asked_of.Statement.{statement}
 use Rattle.northbridge.proofs.call.asked_of.Tie as tie
 

@@ -1,7 +1,7 @@
 -- `northbridge::call::carry_out` meets its contract: the state's words, one step, and the words of state and answer.
 -- Assumes nothing.
 use borrow.Author.Needs.{needs}
-use Rattle.northbridge.proofs.CallLaws.{step-carried}
+use Rattle.interface.proofs.CallLaws.{step-carried}
 use Rattle.northbridge.proofs.call.carry_out.Statement.{statement}
 use Rattle.northbridge.proofs.call.carry_out.Tie as tie
 

@@ -3,7 +3,7 @@
 use mathlib.Core.Path.{refl}
 use borrow.Author.Needs.{needs}
 use borrow.Author.Tests.{eq-eqb, ne-eqb}
-use Rattle.northbridge.specs.Exported.{answerSize, told}
+use Rattle.interface.specs.Exported.{answerSize, told}
 use Rattle.northbridge.proofs.call.refuse.Statement.{statement}
 use Rattle.northbridge.proofs.call.refuse.Tie as tie
 

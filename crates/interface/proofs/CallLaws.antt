@@ -1,0 +1,66 @@
+-- From what the code hands back to what a call leaves.
+-- Assumes nothing.
+use mathlib.Core.Path.{_≡_, _∙_, ap, ap₂, sym}
+use mathlib.Core.Bool.{Bool, true, false, _&&_}
+use mathlib.Core.List.{List}
+use Prim.Native.Nat.{ℕ}
+use native.Mathlib.Omega.{arith}
+use lib.Dec.{eqb, eqb→eq, T}
+use lib.ListN.{length}
+use Rattle.machine.proofs.Choices.{by-cond}
+use Rattle.machine.specs.Parts.{State}
+use Rattle.machine.specs.Requests.{Request}
+use Rattle.machine.specs.Steps.{answer, step}
+use Rattle.rulings.specs.Rulings.{replyAs}
+use Rattle.rulings.specs.declared.reply.Outcome.{Outcome}
+use Rattle.operations.specs.Turns.{after, answered, before, callAs}
+use Rattle.table.specs.States.{stateAs}
+use Rattle.table.specs.declared.state.StateWords.{StateWords}
+use Rattle.interface.specs.Exported.{answerBytes, answerSize, Asked, asked, carried, exported, known, requestOf, requestSize, served, sized, stateBytes, stateOf, stateSize}
+use Rattle.interface.specs.Meanings.{left}
+
+-- a step of the code's state, stored, is what a known request leaves
+pub step-carried : (q : Request) (s t m b a : List ℕ) (x : StateWords) (r : Outcome) (n : ℕ) (s′ t′ m′ b′ a′ : List ℕ)
+    → stateAs x ≡ stateOf s
+    → (after r t′ m′ ≡ step (before x t m) (callAs q b)) × (answered r b′ ≡ answer (before x t m) (callAs q b))
+    → s′ ≡ stateBytes (stateAs (r .state))
+    → (n ≡ replyAs (r .reply) .refusal) × (a′ ≡ answerBytes (replyAs (r .reply)))
+    → left n s′ t′ m′ b′ a′ ≡ carried (known q) s t m b a
+step-carried q s t m b a x r n s′ t′ m′ b′ a′ hx h hs ha =
+    rw (hs, ha .0, ha .1)
+    (ap₂ served (h .0) (h .1)
+    ∙ ap (λ (z : State). served (step (record { state = z; table = t; memory = m }) (callAs q b)) (answer (record { state = z; table = t; memory = m }) (callAs q b))) hx)
+
+-- ---- sizes
+
+split : (x y z : Bool) → T (x && y && z) → T x × (T y × T z)
+split true true z t = (tt, (tt, t))
+split true false z t = absurd t
+split false y z t = absurd t
+
+module _ (q s a : List ℕ) where
+  pub sizes : sized q s a ≡ true → (length q ≡ requestSize) × ((length s ≡ stateSize) × (length a ≡ answerSize))
+  sizes h =
+      let t : T (sized q s a) = rw h tt in
+      let p = split (eqb (length q) requestSize) (eqb (length s) stateSize) (eqb (length a) answerSize) t in
+      (eqb→eq (length q) requestSize (p .0), (eqb→eq (length s) stateSize (p .1 .0), eqb→eq (length a) answerSize (p .1 .1)))
+
+  -- a request is known only where state and answer have theirs
+  pub known-sizes : (r : Request) → known r ≡ asked q s a → (length s ≡ stateSize) × (length a ≡ answerSize)
+  unfolding asked
+  known-sizes r =
+      by-cond (λ (k : Asked). known r ≡ k → (length s ≡ stateSize) × (length a ≡ answerSize)) (sized q s a) (λ e h. sizes e .1)
+      (λ e h. absurd (let z : _≡_ {A = ℕ} 0 1 = cc in omega arith))
+
+  -- and only where the request has its own; it is the one that its words pick
+  pub request-sized : (r : Request) → asked q s a ≡ known r → (length q ≡ requestSize) × (known r ≡ requestOf q)
+  unfolding asked
+  request-sized r =
+      by-cond (λ (k : Asked). k ≡ known r → (length q ≡ requestSize) × (known r ≡ requestOf q)) (sized q s a) (λ e h. (sizes e .0, sym h))
+      (λ e h. absurd (let z : _≡_ {A = ℕ} 0 1 = cc in omega arith))
+
+  -- ---- a call
+
+  pub exported-as : (t m b : List ℕ) (k : Asked) → k ≡ asked q s a → carried k s t m b a ≡ exported q s t m b a
+  unfolding exported
+  exported-as t m b k h = ap (λ (k : Asked). carried k s t m b a) h

@@ -1,0 +1,20 @@
+-- The code's values in the interface's terms.
+-- Assumes nothing.
+use mathlib.Core.List.{List, [], _∷_}
+use Prim.Native.Nat.{ℕ}
+use Rattle.operations.specs.Turns.{requestAs}
+use Rattle.interface.specs.Exported.{Asked, Exported, known, unknown}
+use Rattle.interface.specs.declared.answer.AnswerWords.{AnswerWords}
+use Rattle.interface.specs.declared.request.Asked as code
+use Rattle.interface.specs.declared.request.Asked.the-variants.{Known, Unknown}
+
+abbrev pub askedAs : code.Asked → Asked
+askedAs (Known q) = known (requestAs q)
+askedAs Unknown = unknown
+
+abbrev pub wordsAs : AnswerWords → List ℕ
+wordsAs r = r .refusal ∷ r .place ∷ r .first ∷ r .second ∷ r .dropped ∷ r .length ∷ []
+
+-- what a call returned, with the slices as it left them
+abbrev pub left : ℕ → (state table memory buffer answer : List ℕ) → Exported
+left r s t m b a = record { result = r; state = s; table = t; memory = m; buffer = b; answer = a }
