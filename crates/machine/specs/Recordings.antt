@@ -440,8 +440,12 @@ limits =
     ∷ limit 8 64 0 1 (over [] (dump 0 0)) 2
     ∷ []
 
+-- computed in this crate, and in `uses`
 abbrev pub sessions : List Session
-sessions = fromReset ∷ handedOver ∷ handedOn ∷ goingRound ∷ lastNonces ∷ noneLeft ∷ imaged ∷ []
+sessions = handedOver ∷ handedOn ∷ goingRound ∷ lastNonces ∷ noneLeft ∷ imaged ∷ []
+
+abbrev pub sessionsAbove : List Session
+sessionsAbove = fromReset ∷ []
 
 -- bytes that are written, read and fetched, loaded and dumped, through the root of 8 bytes
 abbrev root8 : List ℕ
