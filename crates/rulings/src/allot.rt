@@ -1,6 +1,6 @@
 // A new number, and nonces for what is issued: places 10 and 11.
 use checks::refusal::Refusal;
-use table::numbers::new_number;
+use numbers::numbers::new_number;
 use table::state::StateWords;
 ghost use Prim.Native.Nat.{_≤_};
 ghost use Rattle.table.specs.States.{stateAs};

@@ -1,4 +1,3 @@
 pub mod CutLaws
 pub mod FitLaws
 pub mod LineLaws
-pub mod SearchLaws

@@ -1,6 +1,5 @@
-// The table: entries by number, the line of an entry, new numbers; and the words of the state.
+// The table: entries by number, the line of an entry; and the words of the state.
 pub mod cut;
 pub mod entries;
 pub mod line;
-pub mod numbers;
 pub mod state;

@@ -11,7 +11,7 @@ use borrow.Author.Tests.{eq-eqb, le-ltb, lt-ltb, ne-eqb, not-true}
 use Rattle.machine.specs.Issuing.{after, seek}
 use Rattle.machine.specs.Parts.{at, size}
 use Rattle.bits.proofs.TestLaws.{both}
-use Rattle.table.specs.Searches.{firstFree, fourTaken, taken}
+use Rattle.numbers.specs.Searches.{firstFree, fourTaken, taken}
 
 -- ---- a search in a row of numbers, before the end
 

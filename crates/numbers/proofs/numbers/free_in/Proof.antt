@@ -1,13 +1,13 @@
--- `table::numbers::free_in` meets its contract. The loop's invariant: the first free number is that from n on.
+-- `numbers::numbers::free_in` meets its contract. The loop's invariant: the first free number is that from n on.
 -- Assumes nothing.
 use mathlib.Core.Path.{sym, _∙_, ap}
 use mathlib.Core.Bool.{not}
 use Prim.Native.Nat.{_-_}
 use borrow.Author.Needs.{needs}
-use Rattle.table.specs.Searches.{Sought}
-use Rattle.table.proofs.SearchLaws.{first-here, first-none, first-on}
-use Rattle.table.proofs.numbers.free_in.Statement.{statement}
-use Rattle.table.proofs.numbers.free_in.Tie as tie
+use Rattle.numbers.specs.Searches.{Sought}
+use Rattle.numbers.proofs.SearchLaws.{first-here, first-none, first-on}
+use Rattle.numbers.proofs.numbers.free_in.Statement.{statement}
+use Rattle.numbers.proofs.numbers.free_in.Tie as tie
 
 abbrev Inv-loop : tie.InvT-loop
 Inv-loop table start end n₀ n = Sought table start end n

@@ -1,15 +1,15 @@
 // New numbers.
-use crate::entries::words_at;
-use crate::state::StateWords;
 use layout::entry::kind_of;
+use table::entries::words_at;
+use table::state::StateWords;
 ghost use mathlib.Core.Path.{_≡_};
 ghost use Prim.Native.Nat.{_+_, _*_, _-_, _/_, _≤_, _<_};
 ghost use lib.Dec.{eqb};
 ghost use lib.ListN.{length};
 ghost use Rattle.machine.specs.Issuing.{newNumber};
 ghost use Rattle.machine.specs.Parts.{at};
-ghost use Rattle.table.specs.Searches.{firstFree, fourTaken, Sought};
+ghost use Rattle.numbers.specs.Searches.{firstFree, fourTaken, Sought};
 ghost use Rattle.table.specs.States.{stateAs};
 
 // The entry of number n is free.
 fn is_free(table: &[u8], n: usize) -> bool

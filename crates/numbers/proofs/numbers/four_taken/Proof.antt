@@ -1,9 +1,9 @@
--- `table::numbers::four_taken` meets its contract: each of the four was looked at.
+-- `numbers::numbers::four_taken` meets its contract: each of the four was looked at.
 -- Assumes nothing.
 use borrow.Author.Needs.{needs}
-use Rattle.table.specs.Searches.{fourTaken}
-use Rattle.table.proofs.numbers.four_taken.Statement.{statement}
-use Rattle.table.proofs.numbers.four_taken.Tie as tie
+use Rattle.numbers.specs.Searches.{fourTaken}
+use Rattle.numbers.proofs.numbers.four_taken.Statement.{statement}
+use Rattle.numbers.proofs.numbers.four_taken.Tie as tie
 
 pub four-taken-spec : {M : Type 1} → statement M
 unfolding fourTaken

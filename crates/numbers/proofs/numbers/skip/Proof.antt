@@ -1,13 +1,13 @@
--- `table::numbers::skip` meets its contract. The loop's invariant: the first free number is that from n on.
+-- `numbers::numbers::skip` meets its contract. The loop's invariant: the first free number is that from n on.
 -- Assumes nothing.
 use mathlib.Core.Path.{refl, sym, _∙_}
 use Prim.Native.Nat.{_-_}
 use borrow.Author.Needs.{needs}
 use borrow.Author.Tests.{not-false}
-use Rattle.table.specs.Searches.{Sought}
-use Rattle.table.proofs.SearchLaws.{first-on-four}
-use Rattle.table.proofs.numbers.skip.Statement.{statement}
-use Rattle.table.proofs.numbers.skip.Tie as tie
+use Rattle.numbers.specs.Searches.{Sought}
+use Rattle.numbers.proofs.SearchLaws.{first-on-four}
+use Rattle.numbers.proofs.numbers.skip.Statement.{statement}
+use Rattle.numbers.proofs.numbers.skip.Tie as tie
 
 abbrev Inv-loop : tie.InvT-loop
 Inv-loop table start end n₀ n = Sought table start end n

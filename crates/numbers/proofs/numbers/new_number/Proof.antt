@@ -1,9 +1,9 @@
--- `table::numbers::new_number` meets its contract: the numbers after the last one given, then those from 1 on.
+-- `numbers::numbers::new_number` meets its contract: the numbers after the last one given, then those from 1 on.
 -- Assumes nothing.
 use borrow.Author.Needs.{needs}
-use Rattle.table.proofs.SearchLaws.{seek-later, seek-round}
-use Rattle.table.proofs.numbers.new_number.Statement.{statement}
-use Rattle.table.proofs.numbers.new_number.Tie as tie
+use Rattle.numbers.proofs.SearchLaws.{seek-later, seek-round}
+use Rattle.numbers.proofs.numbers.new_number.Statement.{statement}
+use Rattle.numbers.proofs.numbers.new_number.Tie as tie
 
 pub new-number-spec : {M : Type 1} → statement M
 new-number-spec =

@@ -1,0 +1,2 @@
+// New numbers in the table.
+pub mod numbers;
