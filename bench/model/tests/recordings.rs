@@ -203,8 +203,9 @@ fn sessions_are_served_as_recorded() {
 #[test]
 fn limits_are_those_recorded() {
     let definitions = recordings();
-    let rows = definitions["limits"].list();
-    for row in rows {
+    let lists = ["limits", "limitsAbove"].map(|name| definitions[name].list());
+    let rows: Vec<&Term> = lists.into_iter().flatten().collect();
+    for row in &rows {
         let ("limit", [memory, entries, last, next, asked, refusal]) = row.call() else {
             panic!("no limit: {row:?}")
         };

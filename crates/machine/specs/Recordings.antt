@@ -411,8 +411,6 @@ limits =
     ∷ limit 8 32 0 0 (plain (reset 0 0 1)) 1
     ∷ limit 8 64 0 0 (plain (reset 0 0 1)) 0
     ∷ limit 8 65 0 0 (plain (reset 0 0 1)) 1
-    ∷ limit 8 32768 0 0 (plain (reset 0 0 1)) 0
-    ∷ limit 8 32800 0 0 (plain (reset 0 0 1)) 1
     ∷ limit 8 64 0 0 (plain (reset 0 0 0)) 1
     ∷ limit 8 64 0 0 (plain (reset 0 0 1)) 0
     ∷ limit 8 64 0 0 (plain (reset 0 0 4294967295)) 0
@@ -423,8 +421,6 @@ limits =
     ∷ limit 8 64 0 4294967296 (plain (clone 0)) 2
     ∷ limit 8 64 0 4294967297 (plain (clone 0)) 1
     ∷ limit 8 64 0 1 (over (zeros 1) (access reading 0 0)) 2
-    ∷ limit 8 64 0 1 (over (zeros 4096) (access reading 0 0)) 2
-    ∷ limit 8 64 0 1 (over (zeros 4097) (access reading 0 0)) 1
     ∷ limit 8 64 2 1 (over (zeros 1) (access writing 0 0)) 1
     ∷ limit 8 64 2 1 (plain (create 0 0 1 0 0 0)) 1
     ∷ limit 8 64 2 1 (plain (merge 0 0 0 0)) 1
@@ -438,6 +434,15 @@ limits =
     ∷ limit 8 64 2 1 (over (zeros 56) (dump 0 0)) 1
     ∷ limit 8 64 0 1 (over ended (load 0 0)) 2
     ∷ limit 8 64 0 1 (over [] (dump 0 0)) 2
+    ∷ []
+
+-- the same, where the table or the buffer is long: computed in `uses`
+abbrev pub limitsAbove : List Row
+limitsAbove =
+    limit 8 32768 0 0 (plain (reset 0 0 1)) 0
+    ∷ limit 8 32800 0 0 (plain (reset 0 0 1)) 1
+    ∷ limit 8 64 0 1 (over (zeros 4096) (access reading 0 0)) 2
+    ∷ limit 8 64 0 1 (over (zeros 4097) (access reading 0 0)) 1
     ∷ []
 
 -- computed in this crate, and in `uses`

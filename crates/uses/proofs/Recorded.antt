@@ -1,7 +1,6 @@
--- The machine serves the recorded session from reset on as the second implementation did: by computation.
+-- The machine serves the recorded session from reset on, and requests over long tables and buffers, as the second implementation did: by computation.
 -- Assumes nothing.
 use mathlib.Core.Path.{refl}
-use mathlib.Core.List.{[]}
 use Rattle.bits.specs.Bytes.{bytes, lowBytes, lowNumber, number}
 use Rattle.bits.specs.SipHash.{absorb, add64, compress, finish, padded, rotl, siphash, sipRound, word}
 use Rattle.layout.specs.Entry.{directNumber, directOf, entryNumber, entryOf, indirectNumber, indirectOf}
@@ -13,9 +12,9 @@ use Rattle.machine.specs.Line.{walk}
 use Rattle.machine.specs.Operations.{climb}
 use Rattle.machine.specs.Parts.{at, cleared, put, size}
 use Rattle.machine.specs.Recorded.{Recorded}
-use Rattle.machine.specs.Recordings.{sessionsAbove}
+use Rattle.machine.specs.Recordings.{limitsAbove, sessionsAbove}
 use Rattle.machine.specs.Steps.{answer, decide, step}
 
-pub sessions-above-agree : Recorded sessionsAbove []
+pub sessions-above-agree : Recorded sessionsAbove limitsAbove
 unfolding bytes number lowBytes lowNumber directNumber directOf entryNumber entryOf indirectNumber indirectOf illFormed within absorb add64 compress finish padded rotl siphash sipRound word tagOf passOver seek walk climb at cleared put size decide step answer
 sessions-above-agree = (refl, refl)
