@@ -16,11 +16,11 @@ extern "C" {
 #endif
 
 /* The interface's version. It is raised with every change that a caller can see. */
-#define NORTHBRIDGE_VERSION 3
+#define NORTHBRIDGE_VERSION 4
 
 /* Sizes in bytes. All words have 64 bits, the low byte first. */
 #define NORTHBRIDGE_REQUEST_SIZE 64
-#define NORTHBRIDGE_STATE_SIZE 32
+#define NORTHBRIDGE_STATE_SIZE 40
 #define NORTHBRIDGE_ANSWER_SIZE 48
 #define NORTHBRIDGE_ENTRY_SIZE 32
 
@@ -85,12 +85,13 @@ enum northbridge_permission {
     NORTHBRIDGE_R = 4  /* read */
 };
 
-/* The words of a state. A reset writes all four, whatever stood there; the caller hands each call what the last one left. */
+/* The words of a state. A reset writes all five, whatever stood there; the caller hands each call what the last one left. */
 enum northbridge_state_word {
     NORTHBRIDGE_KEY0 = 0,
     NORTHBRIDGE_KEY1 = 1,
     NORTHBRIDGE_LAST_NUMBER = 2,
-    NORTHBRIDGE_NEXT_NONCE = 3
+    NORTHBRIDGE_NEXT_NONCE = 3,
+    NORTHBRIDGE_FREE_TOTAL = 4 /* how many numbers are free, number 0 left out: at most the number of entries minus one */
 };
 
 /* The words of an answer. Tokens are 0 where a request gives none, and all words after the place are 0 at a refusal. */
@@ -127,7 +128,7 @@ enum northbridge_refusal {
  * The caller lends six slices, each as a pointer and a length in bytes, for the time of the call:
  *
  *     request   64 bytes; read only
- *     state     32 bytes
+ *     state     40 bytes
  *     table     2 to 1,024 entries of 32 bytes
  *     memory    1 to 16,777,216 bytes
  *     buffer    what a read or fetch fills and a write stores, 1 to 4,096 bytes; the text that a load reads, at most 65,536 bytes; a
@@ -210,6 +211,15 @@ static inline void northbridge_put_word(uint8_t *slice, size_t i, uint64_t word)
     bytes[5] = (uint8_t)(word >> 40);
     bytes[6] = (uint8_t)(word >> 48);
     bytes[7] = (uint8_t)(word >> 56);
+}
+
+/*
+ * How many numbers create, derive and execute-only can still give. It is a word of the state: this calls nothing and does not look at the
+ * table. From a reset on it is what a count of the table would give.
+ */
+static inline uint64_t northbridge_free_total(const struct northbridge *bridge)
+{
+    return northbridge_word(bridge->state, NORTHBRIDGE_FREE_TOTAL);
 }
 
 /* A word of a request, by enum northbridge_request_word, is set. */

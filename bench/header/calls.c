@@ -122,6 +122,34 @@ static void texts_of_segments(void)
     CHECK(northbridge_dump(&b, made.first, 0, NULL, 0).refusal == NORTHBRIDGE_NO_ROOM);
 }
 
+/* The free total after each operation that gives a number or frees one, and after the others. */
+static void free_totals(void)
+{
+    struct northbridge b = northbridge_over(table, sizeof table, memory, sizeof memory);
+    struct northbridge_answer made;
+    uint64_t child, code;
+    memset(b.state, 0xff, sizeof b.state);
+    CHECK(northbridge_free_total(&b) == ~(uint64_t)0);
+    CHECK(northbridge_clone(&b, 0).refusal == NORTHBRIDGE_BAD_REQUEST && northbridge_free_total(&b) == ~(uint64_t)0);
+    CHECK(northbridge_reset(&b, 0, 0, 1).refusal == 0 && northbridge_free_total(&b) == 7);
+    made = northbridge_create(&b, 0, 0, 4096, 0, NORTHBRIDGE_R | NORTHBRIDGE_X, 0);
+    CHECK(made.refusal == 0 && northbridge_free_total(&b) == 6);
+    child = northbridge_derive(&b, made.first, 0, 10, NORTHBRIDGE_X, 0).first;
+    code = northbridge_execute_only(&b, child, 0).first;
+    CHECK(northbridge_free_total(&b) == 4);
+    CHECK(northbridge_clone(&b, code).refusal == 0 && northbridge_drop(&b, code).dropped == 0);
+    CHECK(northbridge_drop(&b, child).dropped == 0 && northbridge_free_total(&b) == 4);
+    CHECK(northbridge_drop(&b, code).dropped == 1 && northbridge_free_total(&b) == 6); /* the child with it */
+    made.first = northbridge_revoke(&b, made.first, 0).first;
+    CHECK(northbridge_merge(&b, made.second, made.first, 0, 0).refusal == NORTHBRIDGE_BOUNDS);
+    CHECK(northbridge_free_total(&b) == 6);
+    made = northbridge_merge(&b, made.first, made.second, 0, 0); /* number 0 is freed, and not counted */
+    CHECK(made.refusal == 0 && northbridge_free_total(&b) == 6);
+    made = northbridge_create(&b, made.first, 0, sizeof memory, 0, NORTHBRIDGE_R, 0); /* one given, one freed */
+    CHECK(made.refusal == 0 && made.second == 0 && northbridge_free_total(&b) == 6);
+    CHECK(northbridge_word(b.state, NORTHBRIDGE_FREE_TOTAL) == 6);
+}
+
 /* Paper 01's packed tokens, and what has no room. */
 static void tokens(void)
 {
@@ -197,6 +225,7 @@ int main(void)
     fifteen_cases();
     operations();
     texts_of_segments();
+    free_totals();
     tokens();
     refused();
     texts();

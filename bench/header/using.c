@@ -222,6 +222,55 @@ static void full_table(void)
     CHECK(northbridge_merge(&b, cut.first, cut.second, 0, 0).refusal == 0);
 }
 
+/* How many numbers are free, by the table. */
+static uint64_t counted(void)
+{
+    uint64_t n, count = 0;
+    for (n = 1; n < ENTRIES; n++) {
+        count += table[32 * n] >> 5 == 0;
+    }
+    return count;
+}
+
+/* From a reset on the free total is what the table says; one that was handed over wrong stops at its ends. */
+static void free_totals(void)
+{
+    struct northbridge b = begun(ENTRIES);
+    struct northbridge_answer cut;
+    uint64_t child, n;
+    CHECK(northbridge_free_total(&b) == ENTRIES - 1 && counted() == ENTRIES - 1);
+    cut = northbridge_create(&b, 0, 0, 100, 0, ALL, 0);
+    child = northbridge_derive(&b, cut.first, 0, 50, ALL, 0).first;
+    for (n = 3; n < ENTRIES; n++) {
+        CHECK(northbridge_free_total(&b) == counted());
+        CHECK(northbridge_derive(&b, child, 0, 50 - n, ALL, 0).refusal == 0);
+    }
+    CHECK(northbridge_free_total(&b) == 0 && northbridge_derive(&b, child, 0, 1, ALL, 0).refusal == NORTHBRIDGE_NO_NUMBER);
+    CHECK(northbridge_drop(&b, child).dropped == 0 && northbridge_free_total(&b) == 0); /* it has children */
+    cut.first = northbridge_revoke(&b, cut.first, 0).first;
+    for (n = 3; n < ENTRIES; n++) {
+        CHECK(northbridge_drop(&b, token_in_table(n, 0)).dropped == 1);
+        CHECK(northbridge_free_total(&b) == counted()); /* the last one frees two */
+    }
+    CHECK(counted() == ENTRIES - 2);
+    cut.first = northbridge_merge(&b, cut.first, cut.second, 0, 0).first; /* number 0 is freed, and not counted */
+    CHECK(table[0] == 0 && northbridge_free_total(&b) == ENTRIES - 2 && counted() == ENTRIES - 2);
+    northbridge_put_word(b.state, NORTHBRIDGE_FREE_TOTAL, ENTRIES); /* above its top */
+    CHECK(read_one(&b, cut.first, 0) == NORTHBRIDGE_BAD_REQUEST);
+    northbridge_put_word(b.state, NORTHBRIDGE_FREE_TOTAL, 0); /* too low: numbers are given all the same */
+    child = northbridge_derive(&b, cut.first, 0, 50, ALL, 0).first;
+    CHECK(northbridge_free_total(&b) == 0 && counted() == ENTRIES - 3);
+    CHECK(northbridge_drop(&b, child).dropped == 1 && northbridge_free_total(&b) == 1);
+    for (n = 1; n < ENTRIES - 1; n++) {
+        CHECK(northbridge_derive(&b, cut.first, 0, 50, ALL, 0).refusal == 0);
+    }
+    northbridge_put_word(b.state, NORTHBRIDGE_FREE_TOTAL, ENTRIES - 1); /* too high: the table decides */
+    CHECK(northbridge_derive(&b, cut.first, 0, 50, ALL, 0).refusal == NORTHBRIDGE_NO_NUMBER);
+    CHECK(northbridge_drop(&b, token_in_table(3, 0)).dropped == 1 && northbridge_free_total(&b) == ENTRIES - 1);
+    northbridge_put_word(b.state, NORTHBRIDGE_FREE_TOTAL, ~(uint64_t)0);
+    CHECK(northbridge_reset(&b, 1, 2, 1).refusal == 0 && northbridge_free_total(&b) == ENTRIES - 1);
+}
+
 /* A load is written completely or not at all; a dump's text restores the bytes. */
 static void images(void)
 {
@@ -300,6 +349,7 @@ int main(void)
     locks();
     revokes();
     full_table();
+    free_totals();
     images();
     longest_line();
     nonces();

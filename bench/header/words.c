@@ -64,6 +64,7 @@ int main(void)
     const uint64_t derive[] = {token, second, 0, length, 0, rights, code};
     const uint64_t encoded[] = {token, 0, 0, 0, 0, 0, code}, alone[] = {token, 0, 0, 0, 0, 0, 0};
     struct northbridge b = northbridge_over(table, sizeof table, memory, sizeof memory);
+    size_t i;
     check(northbridge_reset(&b, key0, key1, nonce), 0, reset, 0, "reset");
     check(northbridge_read(&b, token, task, buffer, sizeof buffer), 1, by_task, 1, "read");
     check(northbridge_write(&b, token, task, buffer, sizeof buffer), 2, by_task, 1, "write");
@@ -81,6 +82,13 @@ int main(void)
     check(northbridge_dump(&b, token, task, buffer, sizeof buffer), 14, by_task, 1, "dump");
     if (b.state[0] != 15) {
         printf("header/words.c: the state is not the one that was lent\n");
+        failures++;
+    }
+    for (i = 0; i < NORTHBRIDGE_STATE_SIZE; i++) {
+        b.state[i] = (uint8_t)(i + 1);
+    }
+    if (northbridge_free_total(&b) != 0x2827262524232221 || b.state[0] != 1) {
+        printf("header/words.c: the free total is not the state's last word, or something was asked\n");
         failures++;
     }
     return failures != 0;

@@ -1,6 +1,6 @@
 /*
  * A hook station's card writes a record of twelve bytes, the weigher's task holds it, and another card tries to read it; then a card's
- * firmware is loaded. From the repository's root:
+ * firmware is loaded, and a batch of windows is given. From the repository's root:
  *
  *     ./build-library
  *     cc -Iinclude examples/c/example.c -Ltarget/staticlib -lnorthbridge -o target/example && target/example
@@ -11,6 +11,7 @@
 #include <stdio.h>
 
 enum { WEIGHER = 7, OTHER = 8 }; /* tasks */
+enum { STATIONS = 8 };
 
 static uint8_t table[16 * NORTHBRIDGE_ENTRY_SIZE];
 static uint8_t memory[65536];
@@ -57,5 +58,15 @@ int main(void)
     said("load of a part", northbridge_load(&bridge, buffer, 0, firmware, 20));
     struct northbridge_answer told = said("dump", northbridge_dump(&bridge, buffer, 0, text, sizeof text));
     printf("%.*s", (int)told.length, text);
+
+    /* Before a batch: are there numbers enough? The total is a word of the state, so that asking costs no call. */
+    uint64_t window[STATIONS], given = 0;
+    if (northbridge_free_total(&bridge) >= STATIONS) {
+        for (; given < STATIONS; given++) {
+            window[given] = northbridge_derive(&bridge, records, 100 * given, 100, NORTHBRIDGE_W, 0).first;
+        }
+        said("station 5 writes", northbridge_write(&bridge, window[5], 0, record, sizeof record));
+    }
+    printf("%" PRIu64 " windows are given, %" PRIu64 " numbers are free\n", given, northbridge_free_total(&bridge));
     return seen[0];
 }

@@ -35,6 +35,21 @@
 //! # Ok::<(), Refusal>(())
 //! ```
 //!
+//! How many numbers are left is known without a request:
+//!
+//! ```
+//! # use bridge::{Encoding, Northbridge, Refusal, Request, Token};
+//! # let (mut table, mut memory) = ([0; 4 * 32], [0; 4]);
+//! # let mut bridge = Northbridge::reset([1, 2], 1, &mut table, &mut memory)?;
+//! # let code = Request::ExecuteOnly { token: Token::ROOT, encoding: Encoding::E0 };
+//! assert_eq!(bridge.free_total(), 3);
+//! for _ in 0..bridge.free_total() {
+//!     bridge.ask(&code)?;
+//! }
+//! assert_eq!(bridge.ask(&code), Err(Refusal::Numbers));
+//! # Ok::<(), Refusal>(())
+//! ```
+//!
 //! An access is no request of [`Northbridge::ask`], since it needs a buffer:
 //!
 //! ```compile_fail,E0599
@@ -60,6 +75,8 @@
 //! # }
 //! ```
 
+use std::sync::OnceLock;
+
 mod answer;
 mod bytes;
 mod operation;
@@ -81,7 +98,7 @@ pub use token::{Encoding, Token, TooFar};
 pub use words::{Argument, Words};
 
 /// The interface's version, which include/northbridge.h has too.
-pub const VERSION: u64 = 3;
+pub const VERSION: u64 = 4;
 
 /// How many bytes the interface's request, state and answer have.
 pub const REQUEST_BYTES: usize = 8 * Words::COUNT;
@@ -106,6 +123,12 @@ impl<'a> Northbridge<'a> {
         let mut bridge = Northbridge { state: State::default(), table, memory };
         bridge.ask(&Request::Reset { key, first_nonce })?;
         Ok(bridge)
+    }
+
+    /// How many numbers can still be given. It stands in the state: no request is asked, and the table
+    /// is not looked at.
+    pub fn free_total(&self) -> u64 {
+        self.state.total
     }
 
     /// Serves a request that brings no buffer.
@@ -188,9 +211,23 @@ fn serve_with(
     let returned = call(&asked, &mut lent, &mut answer);
     *state = State::from_order(words_of(&lent));
     let reply = Reply::from_order(words_of(&answer));
-    // A library of another version leaves an answer of another length as it was.
-    assert!(reply.refusal == returned, "a library of the interface's version {VERSION}");
+    // A library of another version leaves an answer of another length as it was, or refuses all.
+    let of_version = reply.refusal == returned && (returned != 1 || grants_a_reset());
+    assert!(of_version, "expected a library of the interface's version {VERSION}");
     reply
+}
+
+/// Whether the library takes slices of these lengths, found out once.
+#[cold]
+fn grants_a_reset() -> bool {
+    static GRANTS: OnceLock<bool> = OnceLock::new();
+    *GRANTS.get_or_init(|| {
+        let mut request = [0; REQUEST_BYTES];
+        let reset = Request::Reset { key: [0, 0], first_nonce: 1 };
+        put_words(&mut request, &reset.words().in_order());
+        let (mut state, mut answer) = ([0; STATE_BYTES], [0; ANSWER_BYTES]);
+        call(&request, &mut state, &mut [0; 2 * 32], &mut [0], &mut [], &mut answer) == 0
+    })
 }
 
 /// The interface's function over slices of any lengths. It returns the refusal.

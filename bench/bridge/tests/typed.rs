@@ -2,7 +2,7 @@
 
 use bridge::{text_length, Task, Token, TooFar, Words, TEXT_BYTES};
 use bridge::{
-    Buffer, Check, Encoding, Northbridge, Operation, Permissions, Place, Refusal, Request,
+    Buffer, Check, Encoding, Northbridge, Operation, Permissions, Place, Refusal, Request, State,
 };
 
 /// A constant: it lies where nothing can be written.
@@ -104,6 +104,39 @@ fn a_read_and_a_fetch_fill_the_buffer() {
     let mut code = [0; 4];
     bridge.fetch(Token::ROOT, Task::NONE, &mut code).unwrap();
     assert_eq!(code, [7; 4]);
+}
+
+#[test]
+fn the_free_total_is_told_without_a_request() {
+    let (mut table, mut memory) = ([0; 4 * 32], [0; 64]);
+    let mut bridge = Northbridge::reset([0, 0], 1, &mut table, &mut memory).unwrap();
+    assert_eq!(bridge.free_total(), 3);
+    let child = Request::ExecuteOnly { token: Token::ROOT, encoding: Encoding::E0 };
+    let mut given = Token::ROOT;
+    for left in [2, 1, 0] {
+        given = bridge.ask(&child).unwrap().first;
+        assert_eq!(bridge.free_total(), left);
+    }
+    assert_eq!(bridge.ask(&child), Err(Refusal::Numbers));
+    bridge.ask(&Request::Drop { token: given }).unwrap();
+    assert_eq!(bridge.free_total(), 1);
+    bridge.state.total = 4;
+    assert_eq!(bridge.ask(&child), Err(Refusal::Request));
+    assert_eq!(bridge.free_total(), 4);
+    bridge.ask(&Request::Reset { key: [0, 0], first_nonce: 1 }).unwrap();
+    assert_eq!(bridge.free_total(), 3);
+}
+
+#[test]
+fn the_state_has_its_words_in_order() {
+    let words = [1, 2, 3, 4, 5];
+    let mut state = State::from_order(words);
+    let State { key, last_number, next_nonce, total } = state;
+    assert_eq!((key, last_number, next_nonce, total), ([1, 2], 3, 4, 5));
+    assert_eq!((state.in_order(), words.len()), (words, State::WORDS));
+    assert_eq!(words.map(|word| *state.at(word as usize - 1)), words);
+    let text = "key 1 2 last number 3 next nonce 4 free total 5";
+    assert_eq!(state.to_string(), text);
 }
 
 #[test]

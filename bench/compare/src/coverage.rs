@@ -24,14 +24,22 @@ pub fn cases() -> impl Iterator<Item = Case> {
 
 #[derive(Clone, Debug, PartialEq, Eq)]
 pub struct Coverage {
-    answers: [[[u64; PLACES]; REFUSALS]; OPERATIONS],
+    answers: [Row; OPERATIONS],
+    /// Of the requests under a total above its top: what they come to under another total.
+    bad_total: Row,
     pub events: Events,
 }
 
+/// A number for each refusal and place.
+type Row = [[u64; PLACES]; REFUSALS];
+
+/// What the row of `bad_total` is called.
+const BAD_TOTAL: &str = "bad total, else";
+
 impl Default for Coverage {
     fn default() -> Self {
-        let answers = [[[0; PLACES]; REFUSALS]; OPERATIONS];
-        Coverage { answers, events: Events::default() }
+        let row = [[0; PLACES]; REFUSALS];
+        Coverage { answers: [row; OPERATIONS], bad_total: row, events: Events::default() }
     }
 }
 
@@ -47,14 +55,16 @@ fn name(row: usize) -> String {
 
 impl Coverage {
     pub fn count(&mut self, operation: u64, reply: &Reply) {
-        let cell = self.answers[row(operation)].get_mut(reply.refusal as usize);
-        if let Some(cell) = cell.and_then(|places| places.get_mut(reply.place as usize)) {
-            *cell += 1;
-        }
+        add(&mut self.answers[row(operation)], reply);
     }
 
-    pub fn reached(&self, operation: u64, (refusal, place): Case) -> u64 {
-        self.answers[row(operation)][refusal as usize][place as usize]
+    /// Counts a request that was refused under a total above its top, by its reply under another.
+    pub fn count_total(&mut self, otherwise: &Reply) {
+        add(&mut self.bad_total, otherwise);
+    }
+
+    pub fn reached(&self, operation: u64, case: Case) -> u64 {
+        *cell(&self.answers[row(operation)], case)
     }
 
     /// The cases that 01 allows and the events that were not reached, as text.
@@ -64,9 +74,27 @@ impl Coverage {
             .filter(|&(operation, case)| possible(operation, case))
             .filter(|&(operation, case)| self.reached(operation, case) == 0)
             .map(|(operation, case)| format!("{} {}", name(row(operation)), heading(case)))
+            .chain(self.missing_totals())
             .chain(self.events.missing())
             .collect()
     }
+
+    /// Where no total above its top was judged before the case.
+    fn missing_totals(&self) -> impl Iterator<Item = String> + '_ {
+        let missing = cases().filter(|case| *cell(&self.bad_total, *case) == 0);
+        missing.map(|case| format!("{BAD_TOTAL} {}", heading(case)))
+    }
+}
+
+fn add(row: &mut Row, reply: &Reply) {
+    let cell = row.get_mut(reply.refusal as usize);
+    if let Some(cell) = cell.and_then(|places| places.get_mut(reply.place as usize)) {
+        *cell += 1;
+    }
+}
+
+fn cell(row: &Row, (refusal, place): Case) -> &u64 {
+    &row[refusal as usize][place as usize]
 }
 
 /// What 01 allows: whether an operation can come to a refusal. A number that is no operation's comes
@@ -91,16 +119,18 @@ fn heading((refusal, place): Case) -> String {
 impl fmt::Display for Coverage {
     /// The table; a dot stands for what 01 does not allow.
     fn fmt(&self, f: &mut fmt::Formatter<'_>) -> fmt::Result {
-        write!(f, "{:<12}", "operation")?;
+        write!(f, "{:<15}", "operation")?;
         for case in cases() {
             write!(f, " {:>8}", heading(case))?;
         }
         for row in 0..OPERATIONS {
-            write!(f, "\n{:<12}", name(row))?;
+            write!(f, "\n{:<15}", name(row))?;
             for case in cases() {
                 self.cell(f, row as u64, case)?;
             }
         }
+        write!(f, "\n{BAD_TOTAL:<15}")?;
+        cases().try_for_each(|case| write!(f, " {:>8}", cell(&self.bad_total, case)))?;
         write!(f, "\n\n{}", self.events)
     }
 }

@@ -7,6 +7,7 @@ use bridge::{text_length, Check, Operation, Place, Reply, State, Words, TEXT_BYT
 use session::entry::{self, Entry};
 use session::token::Token;
 
+use crate::free;
 use crate::limits::{ENTRIES, MEMORY, SPENT};
 use crate::machine::Machine;
 
@@ -38,9 +39,20 @@ pub enum Event {
     LongestTextDumped,
     DumpTooLong,
     DumpOneByteShort,
+    GivenAtZero,
+    WholeAtZero,
+    WholeAtTop,
+    MergedAtTop,
+    DroppedAtTop,
+    ClimbedToTop,
+    ClimbedRight,
+    RootMerged,
+    RootDropped,
+    FullByTable,
+    ResetOverTotal,
 }
 
-pub const EVENTS: [(Event, &str); 25] = [
+pub const EVENTS: [(Event, &str); 36] = [
     (Event::PassedOne, "a revoke passed over one nonce"),
     (Event::PassedTwo, "a revoke passed over two nonces"),
     (Event::RefusedByPassing, "a revoke was refused since all nonces left were passed over"),
@@ -48,7 +60,7 @@ pub const EVENTS: [(Event, &str); 25] = [
     (Event::LinkRefusedByNonce, "a link with the right tag was missing by its nonce alone"),
     (Event::NumbersWentRound, "the numbers went round"),
     (Event::LastNumberAgain, "the number given last was given again"),
-    (Event::RootFreed, "number 0 was freed"),
+    (Event::RootFreed, "number 0 was freed by a create of the whole"),
     (Event::CountAtTop, "a count came to 65,535"),
     (Event::LargestMemory, "a request over 16,777,216 bytes was granted"),
     (Event::LargestTable, "a request over 1,024 entries was granted"),
@@ -66,10 +78,37 @@ pub const EVENTS: [(Event, &str); 25] = [
     (Event::LongestTextDumped, "a dump of 65,536 bytes of text was granted"),
     (Event::DumpTooLong, "a dump was refused whose text would have 65,538 bytes"),
     (Event::DumpOneByteShort, "a dump was refused whose buffer lacked one byte"),
+    (Event::GivenAtZero, "a number was given with a total of 0, which stayed 0"),
+    (Event::WholeAtZero, "a create of the whole made a total of 0 to 1"),
+    (Event::WholeAtTop, "a create of the whole left a total at its top"),
+    (Event::MergedAtTop, "a merge freed a number with the total at its top"),
+    (Event::DroppedAtTop, "a drop freed a number with the total at its top"),
+    (Event::ClimbedToTop, "a climb freed two numbers or more with the total one below its top"),
+    (Event::ClimbedRight, "a climb freed two numbers or more with a right total"),
+    (Event::RootMerged, "number 0 was freed by a merge"),
+    (Event::RootDropped, "number 0 was freed by a drop"),
+    (Event::FullByTable, "no number was free, and the total was not 0"),
+    (Event::ResetOverTotal, "a reset over a total above its top was granted"),
 ];
 
-#[derive(Clone, Debug, Default, PartialEq, Eq)]
+/// What stood before a request.
+#[derive(Clone, Copy, Debug)]
+pub struct Before {
+    pub state: State,
+    /// Whether number 0 was in use.
+    pub root: bool,
+    /// The free numbers but 0, by the table.
+    pub free: u64,
+}
+
+#[derive(Clone, Debug, PartialEq, Eq)]
 pub struct Events([u64; EVENTS.len()]);
+
+impl Default for Events {
+    fn default() -> Self {
+        Events([0; EVENTS.len()])
+    }
+}
 
 impl Events {
     /// Looks at a request that was served with a buffer of so many bytes; the machine stands as it was
@@ -78,12 +117,12 @@ impl Events {
         &mut self,
         (request, lent): (&Words, usize),
         reply: &Reply,
-        before: State,
-        root_before: bool,
+        before: Before,
         machine: &dyn Machine,
     ) {
-        let seen = Seen { request, reply, before, after: machine.state(), root_before, machine };
+        let seen = Seen { request, reply, before, after: machine.state(), machine };
         let operation = Operation::of(request.operation);
+        self.total(&seen, operation);
         if operation.is_some_and(Operation::gives_number) {
             self.given(&seen);
         }
@@ -113,11 +152,12 @@ impl Events {
     }
 
     fn revoke(&mut self, seen: &Seen) {
-        let used = seen.after.next_nonce.wrapping_sub(seen.before.next_nonce);
+        let before = seen.before.state.next_nonce;
+        let used = seen.after.next_nonce.wrapping_sub(before);
         self.add(Event::PassedOne, used == 2);
         self.add(Event::PassedTwo, used == 3);
-        let left = seen.before.next_nonce < SPENT;
-        self.add(Event::RefusedByPassing, seen.reply.refusal == Check::Nonces as u64 && left);
+        let refused = seen.reply.refusal == Check::Nonces as u64;
+        self.add(Event::RefusedByPassing, refused && before < SPENT);
     }
 
     fn derive(&mut self, seen: &Seen) {
@@ -153,14 +193,48 @@ impl Events {
         if seen.reply.refusal != 0 {
             return;
         }
-        let (before, after) = (seen.before.last_number, seen.after.last_number);
+        let (before, after) = (seen.before.state.last_number, seen.after.last_number);
         self.add(Event::NumbersWentRound, after < before);
         self.add(Event::LastNumberAgain, after == before);
         let create = seen.request.operation == Operation::Create as u64;
         let root = seen.entry(0);
-        self.add(Event::RootFreed, create && seen.root_before && root.is_free());
+        self.add(Event::RootFreed, create && seen.before.root && root.is_free());
         let of_root = create && seen.named() == 0 && !root.is_free();
         self.add(Event::RestWithTagZero, of_root && root.get(entry::TAG) == 0);
+    }
+
+    /// What became of the total.
+    fn total(&mut self, seen: &Seen, operation: Option<Operation>) {
+        let (total, free) = (seen.before.state.total, seen.before.free);
+        let top = free::top(seen.machine.table());
+        let full = seen.reply.refusal == Check::Numbers as u64;
+        self.add(Event::FullByTable, full && total != 0);
+        if seen.reply.refusal != 0 {
+            return;
+        }
+        let root_freed = seen.before.root && seen.entry(0).is_free();
+        match operation {
+            Some(Operation::Reset) => self.add(Event::ResetOverTotal, total > top),
+            Some(Operation::Create) if seen.entry(seen.named()).is_free() => {
+                self.add(Event::WholeAtZero, total == 0 && seen.named() != 0);
+                self.add(Event::WholeAtTop, total == top && seen.named() != 0);
+            }
+            Some(Operation::Create | Operation::Derive | Operation::ExecuteOnly) => {
+                self.add(Event::GivenAtZero, total == 0);
+            }
+            Some(Operation::Merge) => {
+                self.add(Event::MergedAtTop, total == top && !root_freed);
+                self.add(Event::RootMerged, root_freed);
+            }
+            Some(Operation::Drop) => {
+                let freed = free::counted(seen.machine.table()).saturating_sub(free);
+                self.add(Event::DroppedAtTop, total == top && freed > 0);
+                self.add(Event::ClimbedToTop, total + 1 == top && freed > 1);
+                self.add(Event::ClimbedRight, total == free && freed > 1);
+                self.add(Event::RootDropped, root_freed);
+            }
+            _ => {}
+        }
     }
 
     /// What was not reached, as text.
@@ -174,10 +248,8 @@ impl Events {
 struct Seen<'a> {
     request: &'a Words,
     reply: &'a Reply,
-    before: State,
+    before: Before,
     after: State,
-    /// Whether number 0 was in use.
-    root_before: bool,
     machine: &'a dyn Machine,
 }
 

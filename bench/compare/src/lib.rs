@@ -11,6 +11,7 @@ mod difference;
 mod draft;
 mod events;
 mod fault;
+mod free;
 mod guard;
 mod image;
 mod kinds;

@@ -11,6 +11,9 @@ use session::{Session, Step, World};
 use crate::coverage::Coverage;
 use crate::dice::Dice;
 use crate::difference::Difference;
+use crate::events::Before;
+use crate::free;
+use crate::machine::Machine;
 use crate::pair::Pair;
 use crate::progress::Progress;
 
@@ -92,14 +95,16 @@ impl<'a> Player<'a> {
         }
         self.asked += 1;
         self.progress.asked(self.asked);
-        let (before, root) = (self.state(), !self.entry(0).is_free());
+        let before = self.before();
         self.log.steps.push(Step { request, buffer });
         let buffer = self.log.steps.last().map_or(&[][..], |step| &step.buffer);
         match self.pair.ask(&request, buffer) {
             Ok(reply) => {
                 self.coverage.count(request.operation, &reply);
                 let (machine, lent) = (self.pair.reference.as_ref(), buffer.len());
-                self.coverage.events.count((&request, lent), &reply, before, root, machine);
+                self.coverage.events.count((&request, lent), &reply, before, machine);
+                let otherwise = without_total(&request, buffer, &reply, machine);
+                otherwise.iter().for_each(|reply| self.coverage.count_total(reply));
                 self.keep(request.operation, &reply);
                 reply
             }
@@ -136,6 +141,11 @@ impl<'a> Player<'a> {
         words
     }
 
+    fn before(&self) -> Before {
+        let (root, free) = (!self.entry(0).is_free(), free::counted(self.table()));
+        Before { state: self.state(), root, free }
+    }
+
     // What stands now.
 
     pub fn state(&self) -> bridge::State {
@@ -165,8 +175,7 @@ impl<'a> Player<'a> {
 
     /// The world as it stands now.
     pub fn world(&self) -> World {
-        let (table, memory) = (self.table().to_vec(), self.memory().to_vec());
-        World { state: self.state(), table, memory }
+        world_of(self.pair.reference.as_ref())
     }
 
     // Requests, by their operation.
@@ -223,6 +232,29 @@ impl<'a> Player<'a> {
     pub fn hold(&mut self, operation: Operation, token: u64, task: u64) -> Reply {
         self.ask(Words { operation: operation as u64, token, task, ..Words::default() })
     }
+}
+
+/// The world of a machine.
+fn world_of(machine: &dyn Machine) -> World {
+    let (table, memory) = (machine.table().to_vec(), machine.memory().to_vec());
+    World { state: machine.state(), table, memory }
+}
+
+/// What a request that was refused under a total above its top comes to under another total.
+fn without_total(
+    request: &Words,
+    buffer: &[u8],
+    reply: &Reply,
+    machine: &dyn Machine,
+) -> Option<Reply> {
+    let above = machine.state().total > free::top(machine.table());
+    let judged = request.operation != Operation::Reset as u64;
+    if !above || !judged || reply.refusal != Check::Request as u64 {
+        return None;
+    }
+    let mut world = world_of(machine);
+    world.state.total = 0;
+    Some(world.serve(request, &mut buffer.to_vec()))
 }
 
 impl fmt::Display for Found {

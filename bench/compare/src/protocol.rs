@@ -2,15 +2,15 @@
 //! standard output.
 //!
 //! ```text
-//! northbridge 2                             northbridge 2
-//! world TABLE MEMORY KEY0 KEY1 LAST NEXT    ok
-//! table AT BYTES                            ok
-//! memory AT BYTES                           ok
-//! serve WORD0 .. WORD7 BUFFER               answer REFUSAL PLACE FIRST SECOND DROPPED LENGTH
-//!                                                  KEY0 KEY1 LAST NEXT BUFFER
-//! show-table AT LENGTH                      bytes BYTES
-//! show-memory AT LENGTH                     bytes BYTES
-//! anything else                             error WHAT WAS EXPECTED
+//! northbridge 3                                   northbridge 3
+//! world TABLE MEMORY KEY0 KEY1 LAST NEXT TOTAL    ok
+//! table AT BYTES                                  ok
+//! memory AT BYTES                                 ok
+//! serve WORD0 .. WORD7 BUFFER                     answer REFUSAL PLACE FIRST SECOND DROPPED LENGTH
+//!                                                        KEY0 KEY1 LAST NEXT TOTAL BUFFER
+//! show-table AT LENGTH                            bytes BYTES
+//! show-memory AT LENGTH                           bytes BYTES
+//! anything else                                   error WHAT WAS EXPECTED
 //! ```
 //!
 //! Numbers are hexadecimal without a prefix, bytes two digits each, and `-` stands for no bytes.
@@ -23,10 +23,10 @@
 use bridge::{Reply, State, Words};
 
 /// The protocol's version. It is raised with every change that a simulator can see.
-const VERSION: &str = "2";
+const VERSION: &str = "3";
 
 /// The first line, and its answer.
-pub const GREETING: &str = "northbridge 2";
+pub const GREETING: &str = "northbridge 3";
 
 /// How many bytes of table or memory one line holds at most.
 pub const PIECE: usize = 8_192;
@@ -113,7 +113,7 @@ fn show(part: Name, at: &str, wanted: &str) -> Result<Line, String> {
 }
 
 /// What is expected of an answer.
-pub const ANSWER: &str = "expected answer, ten words and a buffer";
+pub const ANSWER: &str = "expected answer, eleven words and a buffer";
 
 /// The reply, the state and the buffer of an answer.
 pub fn parse_answer(line: &str) -> Result<(Reply, State, Vec<u8>), String> {
@@ -225,10 +225,10 @@ mod tests {
 
     #[test]
     fn lines_are_read() {
-        let state = State::from_order([1, 2, 3, 4]);
+        let state = State::from_order([1, 2, 3, 4, 5]);
         assert_eq!(parse(GREETING), Ok(Line::Greeting));
         let world = Line::World { table: 64, memory: 16, state };
-        assert_eq!(parse("world 40 10 1 2 3 4"), Ok(world));
+        assert_eq!(parse("world 40 10 1 2 3 4 5"), Ok(world));
         let put = Line::Put { part: Name::Memory, at: 10, bytes: vec![0xAB, 0] };
         assert_eq!(parse("memory a Ab00"), Ok(put));
         let words = Words::from_order([1, 0, 0, 0, 0, 0, 0, u64::MAX]);
@@ -242,12 +242,13 @@ mod tests {
     fn bad_lines_say_what_was_expected() {
         let wrong = |line: &str| parse(line).unwrap_err();
         assert!(wrong("").contains("northbridge"));
-        assert!(wrong("northbridge 1").contains("version 2"));
+        assert!(wrong("northbridge 2").contains("version 3"));
+        assert!(wrong("world 40 10 1 2 3 4").contains("7 words"));
         assert!(wrong("serve 1 2 -").contains("8 words"));
         assert!(wrong("serve +1 0 0 0 0 0 0 0 -").contains("'+1'"));
         assert!(wrong("table 0 abc").contains("even"));
         assert!(wrong("table 0 zz").contains("'zz'"));
-        assert!(wrong("world ffffffffffffffff 0 0 0 0 0").contains("length"));
+        assert!(wrong("world ffffffffffffffff 0 0 0 0 0 0").contains("length"));
     }
 
     /// A line holds so many bytes and no more, and no line asks for more.

@@ -5,7 +5,7 @@ use session::entry::{self, Entry};
 use session::World;
 
 use crate::player::Player;
-use crate::wild;
+use crate::{free, wild};
 
 pub fn key(player: &mut Player) -> [u64; 2] {
     [player.dice.word(), player.dice.word()]
@@ -24,9 +24,29 @@ pub fn dirty(player: &mut Player, entries: usize, memory: usize) -> World {
     world
 }
 
-/// A state that is handed over. What a further word of the state holds is said here.
-pub fn handed(key: [u64; 2], last_number: u64, next_nonce: u64) -> State {
-    State { key, last_number, next_nonce }
+/// A state that is handed over with a table. What a further word of the state holds is said here.
+pub fn handed(player: &mut Player, table: &[u8], last_number: u64, next_nonce: u64) -> State {
+    State { key: key(player), last_number, next_nonce, total: total(player, table) }
+}
+
+/// A total inside its limits: what a count gives, or a wrong one.
+pub fn total(player: &mut Player, table: &[u8]) -> u64 {
+    let top = free::top(table);
+    match player.dice.below(10) {
+        0 => 0,
+        1 => top.min(1),
+        2 => top.saturating_sub(1),
+        3 => top,
+        4 => player.dice.between(0, top),
+        _ => free::counted(table),
+    }
+}
+
+/// Totals above the top: by one, by a little, right but for upper bits, and the largest word.
+pub fn totals_above(table: &[u8]) -> [u64; 7] {
+    let (above, right) = (free::top(table) + 1, free::counted(table));
+    let [wide, wider, widest] = [16, 32, 63].map(|bit| (1 << bit) + right);
+    [above, above + 1, 2_048, wide, wider, widest, u64::MAX]
 }
 
 /// A state of random words.
@@ -86,8 +106,6 @@ pub fn line(player: &mut Player, entries: usize, memory: usize, count: u64) -> W
         entry.store(&mut world.table, number);
         parent = entry.token(number, 1);
     }
-    let key = key(player);
-    let last_number = entries as u64 - 1;
-    world.state = handed(key, last_number, entries as u64 + 1);
+    world.state = handed(player, &world.table, entries as u64 - 1, entries as u64 + 1);
     world
 }

@@ -171,7 +171,7 @@ fn find_all(names: Vec<String>) -> Vec<Seen> {
 #[test]
 fn each_fault_is_found_and_shrunk() {
     let names = names();
-    assert!(names.len() >= 104);
+    assert!(names.len() >= 125);
     let mut all = find_all(names);
     all.sort_by(|one, other| one.name.cmp(&other.name));
     for Seen { name, requests, shrunk } in &all {

@@ -4,7 +4,7 @@
 use compare::{Guard, Guarded};
 
 const REQUEST: usize = 64;
-const STATE: usize = 32;
+const STATE: usize = 40;
 const ANSWER: usize = 48;
 const LENGTHS: [usize; 18] =
     [0, 1, 7, 8, 9, 31, 32, 33, 40, 47, 48, 49, 63, 64, 65, 100, 4_096, 65_536];

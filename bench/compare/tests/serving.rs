@@ -13,8 +13,8 @@ fn answers(lines: &str) -> Vec<String> {
 
 #[test]
 fn a_session_by_lines() {
-    let lines = "northbridge 2\n\
-        world 40 8 0 0 0 0\n\
+    let lines = "northbridge 3\n\
+        world 40 8 0 0 0 0 9\n\
         memory 2 aAbB\n\
         serve 0 5 6 1 0 0 0 0 -\n\
         serve 1 2 0 0 0 0 0 0 000000\n\
@@ -26,13 +26,13 @@ fn a_session_by_lines() {
     let root = "200000000000002000000000000000000000000000000000003a000000000000";
     let root = root.replacen("2000000000000020", "2000000000000001", 1);
     let wanted = [
-        "northbridge 2".to_string(),
+        "northbridge 3".to_string(),
         "ok".to_string(),
         "ok".to_string(),
-        "answer 0 0 0 0 0 0 5 6 0 1 -".to_string(),
-        "answer 0 0 0 0 0 0 5 6 0 1 aabb00".to_string(),
-        "answer 8 0 0 0 0 0 5 6 0 1 1234".to_string(),
-        "answer e 0 0 0 0 0 5 6 0 1 -".to_string(),
+        "answer 0 0 0 0 0 0 5 6 0 1 1 -".to_string(),
+        "answer 0 0 0 0 0 0 5 6 0 1 1 aabb00".to_string(),
+        "answer 8 0 0 0 0 0 5 6 0 1 1 1234".to_string(),
+        "answer e 0 0 0 0 0 5 6 0 1 1 -".to_string(),
         format!("bytes {root}"),
         "bytes 0000aabb00000000".to_string(),
         "bytes -".to_string(),
@@ -43,7 +43,7 @@ fn a_session_by_lines() {
 #[test]
 fn lines_that_cannot_be_read() {
     let lines =
-        "hello\nserve 1 2 -\nworld 40 8 0 0 0 0\ntable 3f 0000\nshow-memory 0 9\nmemory 0\n";
+        "hello\nserve 1 2 -\nworld 40 8 0 0 0 0 9\ntable 3f 0000\nshow-memory 0 9\nmemory 0\n";
     let wanted = [
         "error expected northbridge, world, table, memory, serve, show-table or show-memory",
         "error expected 8 words before the last, not 2",
@@ -58,22 +58,22 @@ fn lines_that_cannot_be_read() {
 /// A line that is too long is answered once, nothing of it is kept, and the next one is served.
 #[test]
 fn a_line_that_is_too_long() {
-    let lines = io::repeat(b'x').take(1 << 24).chain(&b"\nnorthbridge 2\n"[..]);
+    let lines = io::repeat(b'x').take(1 << 24).chain(&b"\nnorthbridge 3\n"[..]);
     let mut output = Vec::new();
     serve(BufReader::new(lines), &mut output).expect("a served input");
-    let wanted = "error expected a line of at most 139520 characters\nnorthbridge 2\n";
+    let wanted = "error expected a line of at most 139520 characters\nnorthbridge 3\n";
     assert_eq!(String::from_utf8_lossy(&output), wanted);
 }
 
 /// Whoever speaks another version is told so.
 #[test]
 fn another_version() {
-    let wanted = "error expected version 2; docs/SUPPLIER.md says what changed";
-    assert_eq!(answers("northbridge 1\nnorthbridge\n"), [wanted, wanted]);
+    let wanted = "error expected version 3; docs/SUPPLIER.md says what changed";
+    assert_eq!(answers("northbridge 2\nnorthbridge\n"), [wanted, wanted]);
 }
 
 #[test]
 fn no_line_and_a_line_without_an_end() {
     assert_eq!(answers(""), Vec::<String>::new());
-    assert_eq!(answers("northbridge 2"), ["northbridge 2"]);
+    assert_eq!(answers("northbridge 3"), ["northbridge 3"]);
 }

@@ -18,11 +18,13 @@ pub fn sizes(entries: usize, odd_bytes: usize, memory: usize) -> Result<(), Refu
 }
 
 /// "the last number given (inside the table), and the next nonce (1 to
-/// 4,294,967,296)". Reset takes no state, so it judges none.
+/// 4,294,967,296)"; 02, paper 3: "the total may not exceed entries minus one".
+/// Reset takes no state, so it judges none.
 #[inline]
 pub fn state(state: &State, entries: usize) -> Result<(), Refusal> {
     let last = state.last < entries as u64;
-    need(last && (1..=SPENT).contains(&state.next), Refusal::Request)
+    let total = state.total < entries as u64;
+    need(last && (1..=SPENT).contains(&state.next) && total, Refusal::Request)
 }
 
 /// "a first nonce (1 to 4,294,967,295)"

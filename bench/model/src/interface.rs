@@ -18,13 +18,15 @@ pub struct Request {
     pub encoding: u64,
 }
 
-/// The key, the last number given and the next nonce.
+/// The key, the last number given, the next nonce and the kept total.
 #[derive(Clone, Copy, Debug, Default, PartialEq, Eq)]
 pub struct State {
     pub key0: u64,
     pub key1: u64,
     pub last: u64,
     pub next: u64,
+    /// 02, paper 3: "a kept total of free numbers without number 0".
+    pub total: u64,
 }
 
 #[derive(Clone, Copy, Debug, Default, PartialEq, Eq)]

@@ -1,4 +1,5 @@
-//! The machine: state, table and memory together, with what issuing needs.
+//! The machine: state, table and memory together, with what issuing and
+//! freeing need.
 
 use crate::check::SPENT;
 use crate::entry::{Direct, Entry, Kind, Raw};
@@ -17,7 +18,8 @@ pub struct Machine<'a> {
 impl Machine<'_> {
     /// "It writes entry 0, the root: direct, base 0, all of memory, count 0,
     /// permissions R, W and X, Lockable, tag 0, nonce 0. All other entries
-    /// become zeros, the last number 0, the next nonce that first one."
+    /// become zeros, the last number 0, the next nonce that first one." So all
+    /// numbers but 0 are free.
     pub fn reset(&mut self, request: &Request) -> Answer {
         let root = Entry {
             base: 0,
@@ -30,8 +32,13 @@ impl Machine<'_> {
         };
         self.table.clear();
         self.table.store(0, root.pack());
-        *self.state =
-            State { key0: request.token, key1: request.second, last: 0, next: request.task };
+        *self.state = State {
+            key0: request.token,
+            key1: request.second,
+            last: 0,
+            next: request.task,
+            total: self.table.top(),
+        };
         Answer::GRANTED
     }
 
@@ -66,5 +73,24 @@ impl Machine<'_> {
         self.state.next += 1;
         self.table.store(number, raw);
         raw.tag()
+    }
+
+    /// An issue of a new number, which place 10 found free. 02, paper 3: "A
+    /// wrong handed-over total stops at 0".
+    #[inline]
+    pub fn issue_new(&mut self, number: usize, entry: &Entry) -> u16 {
+        self.state.last = number as u64;
+        self.state.total = self.state.total.saturating_sub(1);
+        self.issue(number, entry)
+    }
+
+    /// Frees a number in use. 02, paper 3: the total is one "without number
+    /// 0", and a wrong one stops "at that top".
+    #[inline]
+    pub fn free(&mut self, number: usize) {
+        self.table.free(number);
+        if number != 0 {
+            self.state.total = self.state.total.saturating_add(1).min(self.table.top());
+        }
     }
 }

@@ -55,8 +55,7 @@ impl Machine<'_> {
         let token = naming(parent.number, parent.entry.tag, PARENT_ENCODING);
         let kind = Kind::Indirect(token);
         let child = Entry { base, length, count: 1, permissions, tag: 0, nonce: 0, kind };
-        self.state.last = number as u64;
-        let tag = self.issue(number, &child);
+        let tag = self.issue_new(number, &child);
         parent.entry.count = count;
         self.table.store(parent.number, parent.entry.pack());
         Ok(Answer { first: naming(number, tag, encoding), ..Answer::GRANTED })
@@ -105,7 +104,7 @@ impl Machine<'_> {
                 self.table.store(met.number, met.entry.pack());
                 return;
             }
-            self.table.free(met.number);
+            self.free(met.number);
             match self.table.parent(&met.entry) {
                 Some(parent) => met = parent,
                 None => return,

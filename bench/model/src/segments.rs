@@ -49,14 +49,13 @@ impl Machine<'_> {
             kind: Kind::Direct(Direct { user: request.user, ..direct }),
             ..old
         };
-        self.state.last = number as u64;
-        let tag = self.issue(number, &part);
+        let tag = self.issue_new(number, &part);
         let first = naming(number, tag, request.encoding);
 
         // "The rest keeps its number, is issued anew with base and length
         // moved; at length 0 it is freed instead."
         let second = if whole {
-            self.table.free(named.number);
+            self.free(named.number);
             0
         } else {
             let rest = Entry { base: old.base + length, length: old.length - length, ..old };
@@ -89,7 +88,7 @@ impl Machine<'_> {
             ..first.entry
         };
         let tag = self.issue(first.number, &both);
-        self.table.free(second.number);
+        self.free(second.number);
         let first = naming(first.number, tag, request.encoding);
         Ok(Answer { first, ..Answer::GRANTED })
     }

@@ -43,6 +43,12 @@ impl<'a> Table<'a> {
         Table { parts, memory_length: memory.len() as u64 }
     }
 
+    /// "entries minus one": the free numbers when none but 0 is in use.
+    #[inline]
+    pub fn top(&self) -> u64 {
+        (self.parts.len() as u64).saturating_sub(1)
+    }
+
     /// The bytes of one number, if it is inside the table and not free.
     #[inline(always)]
     fn used(&self, number: u64) -> Option<(usize, Raw)> {

@@ -584,6 +584,7 @@ fn words_of_the_requests() {
     assert_eq!(both(&|_, rig| rig.state.next = SPENT + 1), (1, 1));
     assert_eq!(both(&|_, rig| rig.state.next = 0), (1, 1));
     assert_eq!(both(&|_, rig| rig.state.last = 4), (1, 1));
+    assert_eq!(both(&|_, rig| rig.state.total = 4), (1, 1));
     assert_eq!(both(&|_, rig| rig.table.push(0)), (1, 1));
     assert_eq!(both(&|_, rig| rig.table.truncate(32)), (1, 1));
     assert_eq!(both(&|_, rig| rig.memory.clear()), (1, 1));

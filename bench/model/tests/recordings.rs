@@ -29,9 +29,11 @@ fn table(term: &Term, definitions: &Definitions) -> Vec<u8> {
 }
 
 fn state(term: &Term) -> State {
-    let ("known", [key0, key1, last, next]) = term.call() else { panic!("no state: {term:?}") };
-    let [key0, key1, last, next] = [key0, key1, last, next].map(Term::number);
-    State { key0, key1, last, next }
+    let ("known", [key0, key1, last, next, total]) = term.call() else {
+        panic!("no state: {term:?}")
+    };
+    let [key0, key1, last, next, total] = [key0, key1, last, next, total].map(Term::number);
+    State { key0, key1, last, next, total }
 }
 
 /// What a word names, or the term itself.
@@ -98,38 +100,36 @@ fn way_of(word: &str) -> u64 {
     }
 }
 
-/// What a row says of a request: the answer, the last number and the next nonce, and the effect.
+/// What a row says of a request: the answer, the counters that it leaves, and the effect.
 struct Told<'a> {
     call: &'a Term,
     answer: Answer,
-    last: u64,
-    next: u64,
+    /// The last number, the next nonce and the total.
+    counters: [u64; 3],
     effect: (&'a str, &'a [Term]),
+}
+
+fn counters(words: [&Term; 3]) -> [u64; 3] {
+    words.map(Term::number)
 }
 
 fn told(row: &Term) -> Told<'_> {
     let mut answer = Answer::default();
     match row.call() {
-        ("grants", [call, tokens, dropped, last, next, effect]) => {
+        ("grants", [call, tokens, dropped, last, next, total, effect]) => {
             let tokens = tokens.list();
             answer.first = tokens.first().map_or(0, Term::number);
             answer.second = tokens.get(1).map_or(0, Term::number);
             answer.dropped = dropped.number();
-            Told { call, answer, last: last.number(), next: next.number(), effect: effect.call() }
+            Told { call, answer, counters: counters([last, next, total]), effect: effect.call() }
         }
-        ("dumps", [call, length, last, next, effect]) => {
+        ("dumps", [call, length, last, next, total, effect]) => {
             answer.length = length.number();
-            Told { call, answer, last: last.number(), next: next.number(), effect: effect.call() }
+            Told { call, answer, counters: counters([last, next, total]), effect: effect.call() }
         }
-        ("refuses", [call, refusal, place, last, next]) => {
+        ("refuses", [call, refusal, place, last, next, total]) => {
             (answer.refusal, answer.place) = (refusal.number(), place.number());
-            Told {
-                call,
-                answer,
-                last: last.number(),
-                next: next.number(),
-                effect: ("nothing", &[]),
-            }
+            Told { call, answer, counters: counters([last, next, total]), effect: ("nothing", &[]) }
         }
         _ => panic!("no row: {row:?}"),
     }
@@ -183,8 +183,8 @@ fn replay(session: &Term, definitions: &Definitions) -> usize {
         let (mut left, mut back) = (memory.clone(), buffer.clone());
         carried(expected.effect, &mut left, &mut back);
         let answer = serve(asked, &mut at, &mut entries, &mut memory, &mut buffer);
-        let said = (answer, at.last, at.next, &memory, &buffer);
-        assert_eq!(said, (expected.answer, expected.last, expected.next, &left, &back), "{row:?}");
+        let said = (answer, [at.last, at.next, at.total], &memory, &buffer);
+        assert_eq!(said, (expected.answer, expected.counters, &left, &back), "{row:?}");
     }
     assert_eq!(entries, table(session.field("left"), definitions));
     rows.len()
@@ -197,7 +197,7 @@ fn sessions_are_served_as_recorded() {
     let sessions: Vec<&Term> = lists.into_iter().flatten().collect();
     let rows: usize =
         sessions.iter().map(|name| replay(&definitions[name.word()], &definitions)).sum();
-    assert_eq!((sessions.len(), rows), (7, 215));
+    assert_eq!((sessions.len(), rows), (8, 217));
 }
 
 #[test]
@@ -206,17 +206,18 @@ fn limits_are_those_recorded() {
     let lists = ["limits", "limitsAbove"].map(|name| definitions[name].list());
     let rows: Vec<&Term> = lists.into_iter().flatten().collect();
     for row in &rows {
-        let ("limit", [memory, entries, last, next, asked, refusal]) = row.call() else {
+        let ("limit", [memory, entries, last, next, total, asked, refusal]) = row.call() else {
             panic!("no limit: {row:?}")
         };
-        let mut at = State { last: last.number(), next: next.number(), ..State::default() };
+        let [last, next, total] = counters([last, next, total]);
+        let mut at = State { last, next, total, ..State::default() };
         let (mut memory, mut entries) =
             (vec![0; memory.number() as usize], vec![0; entries.number() as usize]);
         let (asked, mut buffer) = call(asked, &definitions);
         let answer = serve(asked, &mut at, &mut entries, &mut memory, &mut buffer);
         assert_eq!(answer.refusal, refusal.number(), "{row:?}");
     }
-    assert_eq!(rows.len(), 34);
+    assert_eq!(rows.len(), 48);
 }
 
 #[test]

@@ -3,7 +3,7 @@
 mod common;
 use common::{Rig, SPENT};
 use model::operation::*;
-use model::{Answer, Request};
+use model::{Answer, Request, State};
 
 fn stop(answer: Answer) -> (u64, u64) {
     (answer.refusal, answer.place)
@@ -38,10 +38,17 @@ fn sizes_and_settings() {
         assert_eq!(reads(memory, table), (1, 1));
     }
     let mut rig = Rig::new(64, 4);
-    for (last, next, refusal) in
-        [(3, 1, 0), (0, SPENT, 0), (4, 1, 1), (u64::MAX, 1, 1), (0, 0, 1), (0, SPENT + 1, 1)]
-    {
-        (rig.state.last, rig.state.next) = (last, next);
+    for (last, next, total, refusal) in [
+        (3, 1, 0, 0),
+        (0, SPENT, 3, 0),
+        (4, 1, 0, 1),
+        (u64::MAX, 1, 0, 1),
+        (0, 0, 0, 1),
+        (0, SPENT + 1, 0, 1),
+        (0, 1, 4, 1),
+        (0, 1, u64::MAX, 1),
+    ] {
+        (rig.state.last, rig.state.next, rig.state.total) = (last, next, total);
         assert_eq!(rig.access(READ, 0, 1, 0), refusal);
         assert_eq!(rig.simple(CLONE, 0).refusal, refusal);
         assert_eq!(rig.simple(DROP, 0).refusal, refusal);
@@ -54,13 +61,12 @@ fn sizes_and_settings() {
 fn reset_judges_what_it_takes() {
     for (nonce, refusal) in [(0, 1), (1, 0), (SPENT - 1, 0), (SPENT, 1), (u64::MAX, 1)] {
         let mut rig = Rig::bare(64, 4);
-        rig.state.last = 99;
+        (rig.state.last, rig.state.total) = (99, 99);
         rig.table.fill(0xEE);
         rig.memory.fill(0x55);
         assert_eq!(rig.reset(3, 4, nonce).refusal, refusal);
         if refusal == 0 {
-            let state = (rig.state.key0, rig.state.key1, rig.state.last, rig.state.next);
-            assert_eq!(state, (3, 4, 0, nonce));
+            assert_eq!(rig.state, State { key0: 3, key1: 4, last: 0, next: nonce, total: 3 });
             assert_eq!(rig.table[32..], [0; 96]);
             assert_eq!(rig.memory, [0x55; 64]);
         }

@@ -65,7 +65,7 @@ fn any_text(dice: &mut Dice) -> Vec<u8> {
 /// length, and no byte has two owners".
 fn owners_add_up(rig: &Rig) {
     let mut owned = vec![false; rig.memory.len()];
-    for number in 0..rig.table.len() / 32 {
+    for number in 0..rig.entries() {
         if rig.kind(number) == 1 {
             let from = rig.base(number) as usize;
             for byte in &mut owned[from..from + rig.length(number) as usize] {
@@ -79,7 +79,7 @@ fn owners_add_up(rig: &Rig) {
 
 /// A token for the direct entry that begins where the named one ends.
 fn neighbour(rig: &Rig, token: u64) -> u64 {
-    let entries = rig.table.len() / 32;
+    let entries = rig.entries();
     let named = (token >> 32 & 0x3FFF) as usize % entries;
     let end = rig.base(named) + rig.length(named);
     let next = (0..entries).find(|&number| rig.kind(number) == 1 && rig.base(number) == end);
@@ -114,6 +114,8 @@ fn lists_from_reset() {
             }
             let mut buffer = any_buffer(&mut dice, &request, 12);
             let answer = rig.ask_with(request, &mut buffer);
+            // 02, paper 3: "the kept total equals a full count".
+            assert_eq!(rig.state.total, rig.free_numbers());
             seen[answer.refusal as usize] += 1;
             if answer.refusal == 0 {
                 granted[request.operation as usize] += 1;
@@ -148,6 +150,7 @@ fn tables_and_states_that_nobody_reached() {
         if dice.below(30) == 0 {
             rig.state.next = dice.word();
         }
+        rig.state.total = if dice.below(30) == 0 { dice.word() } else { dice.below(5) };
         for number in 0..entries {
             let kind = dice.one_of(&[0, 1, 1, 2, 2, 2, 2, dice.0 >> 61]);
             rig.set(number, 0, 3, kind);
@@ -193,6 +196,7 @@ fn noise() {
             (0..dice.below(6) * 32 + dice.below(9) / 8).map(|_| dice.word() as u8).collect();
         (rig.state.last, rig.state.next) =
             (dice.below(6), dice.one_of(&[0, 1, 77, SPENT, SPENT + 1]));
+        rig.state.total = dice.one_of(&[0, 1, 2, 5, u64::MAX]);
         let word = |dice: &mut Dice| match dice.below(4) {
             0 => u64::MAX,
             1 => dice.below(8),
@@ -228,8 +232,8 @@ fn the_longest_line() {
         token = answer.first;
     }
     assert_eq!(rig.access(READ, token, 1, 0), 0);
-    assert_eq!(rig.derive(token, 0, 1, 7).refusal, 10);
+    assert_eq!((rig.derive(token, 0, 1, 7).refusal, rig.state.total), (10, 0));
     assert_eq!(rig.simple(DROP, token).dropped, 1);
     assert_eq!(rig.table[32..], [0; 32 * 1023]);
-    assert_eq!(rig.count(0), 0);
+    assert_eq!((rig.count(0), rig.state.total), (0, 1_023));
 }

@@ -57,15 +57,16 @@ fn of_sizes(lent: &Lent) -> Vec<String> {
 }
 
 fn of_state(lent: &Lent) -> Vec<String> {
-    let State { last_number, next_nonce, .. } = lent.state;
+    let State { last_number, next_nonce, total, .. } = lent.state;
     let entries = (lent.table / SIZE) as u64;
-    let nonce = next_nonce == 0 || next_nonce > SPENT;
+    let (nonce, most) = (next_nonce == 0 || next_nonce > SPENT, entries.saturating_sub(1));
     that_hold([
         (
             last_number >= entries,
             format!("the state's last number {last_number} is not in the table"),
         ),
         (nonce, format!("the state's next nonce {next_nonce} is not from 1 to {SPENT}")),
+        (total > most, format!("the state's free total {total} is above {most}")),
     ])
 }
 

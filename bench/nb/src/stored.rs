@@ -57,6 +57,8 @@ pub fn all() -> Vec<Stored> {
         "settings-nonce-beyond",
         "settings-wide-last",
         "settings-wide-nonce",
+        "settings-total",
+        "settings-wide-total",
         "tokens-in-each-encoding",
         "access-bounds",
         "permissions-within",
@@ -98,6 +100,7 @@ pub fn all() -> Vec<Stored> {
         "order-derive-nonces",
         "order-lock-drop-revoke",
         "order-load",
+        "order-total",
         "reset-again",
         "deep-line",
         "load-image",
@@ -105,5 +108,10 @@ pub fn all() -> Vec<Stored> {
         "load-pages",
         "dump-text",
         "dump-longest",
+        "total-from-reset",
+        "total-wrong-low",
+        "total-wrong-high",
+        "total-number-zero",
+        "total-climb",
     ]
 }

@@ -120,4 +120,9 @@ fn sizes_and_settings_have_their_words() {
     holds("memory 8 entries 4\nstate last 4 nonce 1\nclone root", last);
     let nonce = "the state's next nonce 0 is not from 1 to 4294967296";
     holds("memory 8 entries 4\nclone root", nonce);
+    let total = "the state's free total 4 is above 3";
+    holds("memory 8 entries 4\nstate nonce 1 total 4\nclone root", total);
+    let both =
+        "the state's next nonce 0 is not from 1 to 4294967296; the state's free total 9 is above 3";
+    holds("memory 8 entries 4\nstate total 9\nclone root", both);
 }

@@ -37,7 +37,7 @@ fn segments_trees_and_locks() {
     let wanted = [
         "memory   65536 bytes",
         "table    16 entries: 2 direct, 4 derived, 10 free",
-        "state    last number #5 (next #6), next nonce 7",
+        "state    last number #5 (next #6), next nonce 7, free total 10",
         "",
         "[AAAAAAAAAAAAAAAABBBBBBBBBBBBBBBBBBBBBBBBBBBBBBBBBBBBBBBBBBBBBBBB] a mark is 1024 bytes",
         "",
@@ -59,7 +59,7 @@ fn segments_trees_and_locks() {
 fn gaps_overlaps_dead_and_ill_formed_entries() {
     let drawing = drawn(
         "memory 64 entries 10
-         state key 0 0 last 9 nonce 100
+         state key 0 0 last 9 nonce 100 total 3
          entry 1 direct base 0 length 32 permissions RWX tag 1 nonce 1
          entry 2 direct base 24 length 16 permissions RWX tag 2 nonce 2
          entry 3 indirect base 0 length 40 parent @2:2 count 1 permissions R tag 3 nonce 3
@@ -72,7 +72,7 @@ fn gaps_overlaps_dead_and_ill_formed_entries() {
     );
     for wanted in [
         "10 entries: 2 direct, 1 derived, 4 dead, 1 under an ill-formed entry, 1 ill-formed, 1 free",
-        "last number #9 (next none)",
+        "last number #9 (next none), next nonce 100, free total 3 (the table has 0)",
         "! overlaps #1 by 8 bytes, 0x00000018 to 0x0000001f",
         "! #3 lies outside its owner's segment",
         "0x00000028 +-- nobody's",

@@ -85,14 +85,14 @@ pub fn model_request(request: &Words) -> model::Request {
 /// A state as the model has it.
 #[inline]
 pub fn model_state(state: &State) -> model::State {
-    let State { key: [key0, key1], last_number: last, next_nonce: next } = *state;
-    model::State { key0, key1, last, next }
+    let State { key: [key0, key1], last_number: last, next_nonce: next, total } = *state;
+    model::State { key0, key1, last, next, total }
 }
 
 #[inline]
 pub fn state_of_model(state: &model::State) -> State {
-    let model::State { key0, key1, last, next } = *state;
-    State { key: [key0, key1], last_number: last, next_nonce: next }
+    let model::State { key0, key1, last, next, total } = *state;
+    State { key: [key0, key1], last_number: last, next_nonce: next, total }
 }
 
 #[inline]

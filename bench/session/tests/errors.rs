@@ -41,7 +41,7 @@ fn the_start() {
     let start = |line: &str| format!("memory 64 entries 4\n  {line}\n");
     let holds = |line: &str, column, expected: &str| holds(&start(line), (2, column), expected, "");
     holds("state key 1", 14, "the second key word");
-    holds("state nonse 1", 9, "'key', 'last' or 'nonce'");
+    holds("state nonse 1", 9, "'key', 'last', 'nonce' or 'total'");
     holds("state last 1 last 2", 16, "each once");
     holds("entry 4 free", 9, "a number from 0 to 3");
     holds("entry 3", 10, "'free', 'direct', 'indirect', 'bytes'");

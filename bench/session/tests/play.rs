@@ -44,6 +44,8 @@ fn what_differs_is_told() {
     assert_eq!(differences("clone root\n= at 5 07"), ["what stands: at 5 07 / at 5 00"]);
     let state = ["what stands: state last 3 nonce 5 / state last 0 nonce 1"];
     assert_eq!(differences("clone root\n= state last 3 nonce 5"), state);
+    let total = ["what stands: state total 2 / state total 3"];
+    assert_eq!(differences("clone root\n= state total 2"), total);
     assert_eq!(differences("clone root\n= table 32 01").len(), 1);
 }
 
@@ -113,7 +115,8 @@ fn a_recorded_script_is_exact() {
         ("= at 0 0102\n", "= at 0 0102\n= at 9 01\n"),
         ("buffer 010200", "buffer 010201"),
         (" buffer 010200", ""),
-        ("= state last 1 nonce 2\n", "= state last 1\n"),
+        ("= state last 1 nonce 2 total 2\n", "= state last 1 nonce 2\n"),
+        ("= state last 1 nonce 2 total 2\n", "= state last 1 total 2\n"),
         ("= entry 0 count 1\n", ""),
         ("= entry 0 count 1\n", "= entry 0 count 1 cow\n"),
         ("= entry 1 indirect base 0", "= entry 1 indirect base 1"),

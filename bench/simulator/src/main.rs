@@ -4,15 +4,15 @@
 //! the standard input, and each is answered by one line on the standard output:
 //!
 //! ```text
-//! northbridge 2                                  northbridge 2
-//! world TABLE MEMORY KEY0 KEY1 LAST NEXT         ok
-//! table AT BYTES                                 ok
-//! memory AT BYTES                                ok
-//! serve WORD0 .. WORD7 BUFFER                    answer REFUSAL PLACE FIRST SECOND DROPPED LENGTH
-//!                                                       KEY0 KEY1 LAST NEXT BUFFER
-//! show-table AT LENGTH                           bytes BYTES
-//! show-memory AT LENGTH                          bytes BYTES
-//! anything else                                  error WHAT WAS EXPECTED
+//! northbridge 3                                   northbridge 3
+//! world TABLE MEMORY KEY0 KEY1 LAST NEXT TOTAL    ok
+//! table AT BYTES                                  ok
+//! memory AT BYTES                                 ok
+//! serve WORD0 .. WORD7 BUFFER                     answer REFUSAL PLACE FIRST SECOND DROPPED LENGTH
+//!                                                        KEY0 KEY1 LAST NEXT TOTAL BUFFER
+//! show-table AT LENGTH                            bytes BYTES
+//! show-memory AT LENGTH                           bytes BYTES
+//! anything else                                   error WHAT WAS EXPECTED
 //! ```
 //!
 //! Numbers are hexadecimal without a prefix, bytes two digits each, and `-` stands for no bytes.
@@ -56,25 +56,25 @@ fn main() -> io::Result<()> {
 fn answer(world: &mut World, line: &str) -> Result<String, String> {
     let words: Vec<&str> = line.split_whitespace().collect();
     match words[..] {
-        ["northbridge", "2"] => Ok("northbridge 2".to_string()),
-        ["northbridge", ..] => Err("expected version 2".to_string()),
+        ["northbridge", "3"] => Ok("northbridge 3".to_string()),
+        ["northbridge", ..] => Err("expected version 3".to_string()),
         ["world", ref rest @ ..] => begin(world, rest),
         ["table", at, text] => put(&mut world.table, at, text),
         ["memory", at, text] => put(&mut world.memory, at, text),
         ["serve", ref rest @ .., buffer] => ask(world, rest, buffer),
         ["show-table", at, length] => show(&world.table, at, length),
         ["show-memory", at, length] => show(&world.memory, at, length),
-        _ => Err("expected northbridge 2, world, table, memory, serve or show".to_string()),
+        _ => Err("expected northbridge 3, world, table, memory, serve or show".to_string()),
     }
 }
 
 /// A table and a memory of zeros, and a state.
 fn begin(world: &mut World, words: &[&str]) -> Result<String, String> {
-    let [table, memory, key0, key1, last, next] = numbers(words)?;
+    let [table, memory, key0, key1, last, next, total] = numbers(words)?;
     if table.max(memory) > WORLD {
         return Err(format!("expected a table and a memory of at most {WORLD:x} bytes"));
     }
-    let state = State { key0, key1, last, next };
+    let state = State { key0, key1, last, next, total };
     *world = World { state, table: vec![0; table as usize], memory: vec![0; memory as usize] };
     Ok("ok".to_string())
 }
@@ -94,9 +94,9 @@ fn ask(world: &mut World, words: &[&str], buffer: &str) -> Result<String, String
     let World { state, table, memory } = world;
     let answer = serve(request, state, table, memory, &mut buffer);
     let model::Answer { refusal, place, first, second, dropped, length } = answer;
-    let State { key0, key1, last, next } = *state;
+    let State { key0, key1, last, next, total } = *state;
     let mut line = "answer".to_string();
-    for word in [refusal, place, first, second, dropped, length, key0, key1, last, next] {
+    for word in [refusal, place, first, second, dropped, length, key0, key1, last, next, total] {
         let _ = write!(line, " {word:x}");
     }
     Ok(format!("{line} {}", text(&buffer)))

@@ -49,14 +49,14 @@ fn another_byte_of_a_table_is_found() {
 fn an_answer_that_cannot_be_read_is_a_difference() {
     let outcome = spoilt("s/^answer 9 .*/nonsense/");
     let told = trouble(&outcome);
-    assert!(told.contains("'nonsense' to 'serve ") && told.contains("ten words"), "{outcome}");
+    assert!(told.contains("'nonsense' to 'serve ") && told.contains("eleven words"), "{outcome}");
     assert!(outcome.found.expect("a difference").session.steps.len() < 4);
 }
 
 #[test]
 fn an_answer_with_a_word_too_few_is_a_difference() {
     let outcome = spoilt("s/^answer 9 0 /answer 9 /");
-    assert!(trouble(&outcome).contains("expected 10 words"), "{outcome}");
+    assert!(trouble(&outcome).contains("expected 11 words"), "{outcome}");
 }
 
 #[test]
@@ -97,7 +97,7 @@ fn silence_is_a_difference() {
 fn a_command_that_says_nothing_at_all() {
     let options = Options { against: Some("sleep 1000".to_string()), ..Options::default() };
     let error = run(&Options { wait: Duration::from_millis(300), ..options }).unwrap_err();
-    let told = "kept silent for 0.3 s when asked 'northbridge 2'";
+    let told = "kept silent for 0.3 s when asked 'northbridge 3'";
     assert!(error.contains(told) && error.contains("--wait"), "{error}");
 }
 
@@ -110,5 +110,5 @@ fn a_command_that_is_not_there() {
 #[test]
 fn a_command_that_does_not_speak_the_protocol() {
     let error = against("echo hello", 10).unwrap_err();
-    assert!(error.contains("'hello' to 'northbridge 2': expected northbridge 2"), "{error}");
+    assert!(error.contains("'hello' to 'northbridge 3': expected northbridge 3"), "{error}");
 }

@@ -13,10 +13,15 @@ pub fn sizes(memory: u64, table: &[u8]) -> bool
     (1 <= memory) & (memory <= 16777216) & (bytes % 32 == 0) & (2 <= entries) & (entries <= 1024)
 }
 
-// And the last number lies in the table, and the next nonce in 1 to 2^32.
+// And the last number lies in the table, the next nonce in 1 to 2^32, and the total of free numbers
+// below the number of entries.
 pub fn settings(memory: u64, s: StateWords, table: &[u8]) -> bool
     ensures { λ r. ⌜ r ≡ settingsHold memory (stateAs s) (now (table .entry)) ⌝ }
 {
     let entries = (table.len() / 32) as u64;
-    sizes(memory, table) & (s.last < entries) & (1 <= s.next) & (s.next <= 4294967296)
+    sizes(memory, table)
+        & (s.last < entries)
+        & (1 <= s.next)
+        & (s.next <= 4294967296)
+        & (s.total < entries)
 }

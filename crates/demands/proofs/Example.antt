@@ -66,7 +66,7 @@ each P k h r e = subst (Each P) e h
 pub premises : Premises before first (reads8 ∷ []) revokes (resets1 ∷ []) derives (broken ∷ locks7 ∷ reads8 ∷ []) child
 unfolding before bytes number lowBytes lowNumber directNumber directOf entryNumber entryOf indirectNumber indirectOf illFormed within absorb add64 compress finish padded rotl siphash sipRound word tagOf passOver seek walk at cleared put size decide step answer asked exported picked told wordBytes allBytes
 premises = record {
-  bytes = bytes-zeros 32;
+  bytes = bytes-zeros 40;
   granted = record { request = reset 0 0 1; asked = refl; such = claim.resets; granted = refl };
   firstBytes = (bytes-by (resets1 .request) refl, (bytes-by (derives .request) refl, (bytes-by (broken .request) refl, (bytes-by (locks7 .request) refl, tt))));
   oneReset = (λ g. no-derive (such _ _ _ g), (λ g. such _ _ _ g, (λ g. no-lock (such _ _ _ g), tt)));

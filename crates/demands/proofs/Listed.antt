@@ -35,8 +35,8 @@ byte-at (x ∷ s) h (suc i) = byte-at s (h .1) i
 -- a state comes back from its bytes
 state-back : (s : State) → StateFits s → stateOf (stateBytes s) ≡ s
 state-back s h =
-    let ws : List ℕ = s .key0 ∷ s .key1 ∷ s .last ∷ s .next ∷ [] in
-    rw (word-of ws 0, word-of ws 1, word-of ws 2, word-of ws 3, mod-eq-of-lt (h .key0), mod-eq-of-lt (h .key1), mod-eq-of-lt (h .last), mod-eq-of-lt (h .next))
+    let ws : List ℕ = s .key0 ∷ s .key1 ∷ s .last ∷ s .next ∷ s .total ∷ [] in
+    rw (word-of ws 0, word-of ws 1, word-of ws 2, word-of ws 3, word-of ws 4, mod-eq-of-lt (h .key0), mod-eq-of-lt (h .key1), mod-eq-of-lt (h .last), mod-eq-of-lt (h .next), mod-eq-of-lt (h .total))
 
 -- bytes are those of the state that they hold
 pub state-kept : (s : List ℕ) → AllBytes s → length s ≡ stateSize → stateBytes (stateOf s) ≡ s
@@ -50,13 +50,13 @@ pub record Whole (κ : Standing) : Type 0 where
 
 pub whole-bytes : (κ : Standing) → AllBytes (κ .state) → length (κ .state) ≡ stateSize → Whole κ
 whole-bytes κ h n =
-    let lt : (i : ℕ) → i < 4 → word (κ .state) i < 2 ^ 64 = λ i l. word-lt (κ .state) i (byte-at (κ .state) h) (omega arith) in
-    record { sized = n; bytes = state-kept (κ .state) h n; fits = record { key0 = lt 0 (omega arith); key1 = lt 1 (omega arith); last = lt 2 (omega arith); next = lt 3 (omega arith) } }
+    let lt : (i : ℕ) → i < 5 → word (κ .state) i < 2 ^ 64 = λ i l. word-lt (κ .state) i (byte-at (κ .state) h) (omega arith) in
+    record { sized = n; bytes = state-kept (κ .state) h n; fits = record { key0 = lt 0 (omega arith); key1 = lt 1 (omega arith); last = lt 2 (omega arith); next = lt 3 (omega arith); total = lt 4 (omega arith) } }
 
 whole-state : (s : State) (t m : List ℕ) → StateFits s → Whole (record { state = stateBytes s; table = t; memory = m })
 whole-state s t m h =
     let same = state-back s h in
-    record { sized = length-word-bytes (s .key0 ∷ s .key1 ∷ s .last ∷ s .next ∷ []); bytes = ap stateBytes same; fits = rw same h }
+    record { sized = length-word-bytes (s .key0 ∷ s .key1 ∷ s .last ∷ s .next ∷ s .total ∷ []); bytes = ap stateBytes same; fits = rw same h }
 
 -- ---- what a call asks
 

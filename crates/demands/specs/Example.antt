@@ -42,7 +42,7 @@ pub record Premises (κ : Standing) (f : First) (qs : List Brought) (r : Brought
 -- ---- the calls
 
 unfoldable pub before : Standing
-before = record { state = replicate 32 0; table = replicate 64 0; memory = replicate 8 9 }
+before = record { state = replicate 40 0; table = replicate 64 0; memory = replicate 8 9 }
 
 -- the words of a request after its operation: token, second, task, length, user, permissions, encoding
 abbrev asking : (operation : ℕ) → List ℕ → (buffer : List ℕ) → Brought

@@ -60,13 +60,13 @@ requestOf q = picked (word q 0) (word q 1) (word q 2) (word q 3) (word q 4) (wor
 
 -- in bytes
 abbrev pub stateSize : ℕ
-stateSize = 32
+stateSize = 40
 
 abbrev pub stateOf : List ℕ → State
-stateOf s = record { key0 = word s 0; key1 = word s 1; last = word s 2; next = word s 3 }
+stateOf s = record { key0 = word s 0; key1 = word s 1; last = word s 2; next = word s 3; total = word s 4 }
 
 abbrev pub stateBytes : State → List ℕ
-stateBytes s = wordBytes (s .key0 ∷ s .key1 ∷ s .last ∷ s .next ∷ [])
+stateBytes s = wordBytes (s .key0 ∷ s .key1 ∷ s .last ∷ s .next ∷ s .total ∷ [])
 
 -- ---- an answer
 

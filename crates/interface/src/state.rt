@@ -8,7 +8,7 @@ ghost use Rattle.table.specs.States.{stateAs};
 ghost use Rattle.interface.specs.Exported.{stateBytes, stateOf, stateSize};
 
 // In bytes.
-pub const STATE_SIZE: usize = 32;
+pub const STATE_SIZE: usize = 40;
 
 // The state that the bytes hold.
 pub fn read_state(part: &[u8]) -> StateWords
@@ -20,6 +20,7 @@ pub fn read_state(part: &[u8]) -> StateWords
         key1: word_at(part, 1),
         last: word_at(part, 2),
         next: word_at(part, 3),
+        total: word_at(part, 4),
     }
 }
 
@@ -28,5 +29,5 @@ pub fn write_state(part: &mut [u8], s: StateWords)
     requires { ⌜ length (now part) ≡ stateSize ⌝ }
     ensures { λ _. ⌜ now (part .exit) ≡ stateBytes (stateAs s) ⌝ }
 {
-    put_words(part, &[s.key0, s.key1, s.last, s.next]);
+    put_words(part, &[s.key0, s.key1, s.last, s.next, s.total]);
 }

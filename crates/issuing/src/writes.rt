@@ -18,7 +18,7 @@ ghost use Prim.Native.Nat.{_+_, _*_, _^_, _≤_, _<_};
 ghost use lib.ListN.{length};
 ghost use Rattle.layout.specs.Entry.{dated, entryOf, recounted, relocked, wordsNumber};
 ghost use Rattle.machine.specs.Issuing.{newNumber};
-ghost use Rattle.machine.specs.Parts.{moved, put};
+ghost use Rattle.machine.specs.Parts.{mostFree, moved, put};
 ghost use Rattle.machine.specs.Writes as write;
 ghost use Rattle.issuing.specs.Left.{begunAs, Issues, issuedAs, issuedTwoAs, leftBy, Renews};
 ghost use Rattle.table.specs.States.{stateAs};
@@ -27,6 +27,31 @@ ghost use Rattle.table.specs.States.{stateAs};
 pub struct Issued {
     pub state: StateWords,
     pub token: u64,
+}
+
+// As many numbers but 0 as the table has.
+pub fn most_free(table: &[u8]) -> u64
+    requires { ⌜ 32 ≤ length (now table) ⌝ }
+    ensures { λ r. ⌜ r ≡ mostFree (now (table .entry)) ⌝ }
+{
+    (table.len() / 32) as u64 - 1
+}
+
+// One free number less, and not below 0.
+fn one_less(total: u64) -> u64
+    ensures { λ r. ⌜ r ≡ write.oneLess total ⌝ }
+{
+    if total == 0 { 0 } else { total - 1 }
+}
+
+// One more, number n, and not above the top; number 0 does not count.
+fn one_more(total: u64, n: usize, top: u64) -> u64
+    ensures { λ r. ⌜ r ≡ write.oneMore top n total ⌝ }
+{
+    if n == 0 {
+        return total;
+    }
+    if total < top { total + 1 } else { total }
 }
 
 // The entry whose words are w is issued with the next nonce under the new number n.
@@ -40,6 +65,7 @@ pub fn give(mut s: StateWords, table: &mut [u8], n: usize, w: Words, encoding: u
     let token = enter(table, n, w, nonce, t, encoding);
     s.last = n as u64;
     s.next += 1;
+    s.total = one_less(s.total);
     Issued { state: s, token }
 }
 
@@ -75,7 +101,7 @@ pub fn give_and_reissue(
 ) -> IssuedTwo
     requires { ⌜ Issues (stateAs s) (now table) n (entryOf (wordsNumber first)) encoding ⌝ }
     requires { ⌜ n ≡ newNumber (stateAs s) (now table) ⌝ }
-    requires { ⌜ Issues (moved (stateAs s) n (s .next + 1)) (now table) k (entryOf (wordsNumber second)) encoding ⌝ }
+    requires { ⌜ Issues (moved (stateAs s) n (s .next + 1) (write.oneLess (s .total))) (now table) k (entryOf (wordsNumber second)) encoding ⌝ }
     ensures { λ r. ⌜ issuedTwoAs r (now (table .exit)) ≡ leftBy (write.written encoding (write.opened (stateAs s) (now (table .entry))) (write.give (dated (entryOf (wordsNumber first))) ∷ write.reissue k (dated (entryOf (wordsNumber second))) ∷ [])) ⌝ }
 {
     let nonce = s.next as u32;
@@ -88,6 +114,7 @@ pub fn give_and_reissue(
     let reissued = enter(table, k, second, later, t.second, encoding);
     s.last = new;
     s.next = s.next + 1 + 1;
+    s.total = one_less(s.total);
     IssuedTwo {
         state: s,
         first: given,
@@ -114,12 +141,23 @@ pub fn renew(
     Issued { state: s, token }
 }
 
-// The entry of number n is freed.
-pub fn vacate(table: &mut [u8], n: usize)
+// The entry of number n becomes a free one; the total of free numbers is the caller's to correct.
+pub fn empty(table: &mut [u8], n: usize)
     requires { ⌜ 32 * n + 32 ≤ length (now table) ⌝ }
     ensures { λ _. ⌜ now (table .exit) ≡ write.vacated (now (table .entry)) n ⌝ }
 {
     put_words(table, n, free_words());
+}
+
+// The entry of number n is freed. It is handed the total of free numbers, and gives the total after.
+pub fn vacate(total: u64, table: &mut [u8], n: usize) -> u64
+    requires { ⌜ 32 * n + 32 ≤ length (now table) ⌝ }
+    ensures { λ r. ⌜ r ≡ write.oneMore (mostFree (now (table .entry))) n total ⌝ }
+    ensures { λ _. ⌜ now (table .exit) ≡ write.vacated (now (table .entry)) n ⌝ }
+{
+    let top = most_free(table);
+    empty(table, n);
+    one_more(total, n, top)
 }
 
 // The entry whose words are w is stored under its number n with another count.
@@ -139,7 +177,7 @@ pub fn relock(table: &mut [u8], n: usize, w: Words, locked: bool, holder: u64)
 }
 
 // The root over all of memory, of so many bytes, and zeros for all other entries. The state is
-// replaced.
+// replaced: every number but 0 is free.
 pub fn begin(
     mut s: StateWords,
     table: &mut [u8],
@@ -151,11 +189,13 @@ pub fn begin(
     requires { ⌜ (32 ≤ length (now table)) × (memory < 2 ^ 32) ⌝ }
     ensures { λ r. ⌜ begunAs r (now (table .exit)) ≡ leftBy (write.write 0 (write.opened (stateAs s) (now (table .entry))) (write.begin memory key0 key1 «first_nonce»)) ⌝ }
 {
+    let top = most_free(table);
     clear(table);
     put_words(table, 0, issued_direct(0, memory as u32, 0, 7, true));
     s.key0 = key0;
     s.key1 = key1;
     s.last = 0;
     s.next = first_nonce;
+    s.total = top;
     s
 }

@@ -4,7 +4,7 @@ use mathlib.Core.Path.{_≡_, refl, sym, ap, subst, _∙_}
 use mathlib.Core.Logic.{_≢_, _⊎_, inl, inr}
 use mathlib.Core.List.{List, [], _∷_, List·Memᴰ·head, List·Memᴰ·tail}
 use mathlib.Core.Bool.{Bool, true, false, false≢true, not, _&&_, cond}
-use Prim.Native.Nat.{ℕ, zero, suc, _+_, _≤_, _<_, _^_}
+use Prim.Native.Nat.{ℕ, zero, suc, _+_, _-_, _≤_, _<_, _^_}
 use native.Mathlib.Omega.{arith}
 use native.Mathlib.Decide.{decLt, ℕ-discrete}
 use lib.Bits.{and-le-l}
@@ -12,12 +12,13 @@ use lib.Dec.{leb, ltb, eqb}
 use lib.ListN.{length, length-replicate}
 use borrow.Author.Tests.{eqb-false, eqb-true, leb-true, ltb-false, ltb-true, ne-eqb, not-true}
 use Rattle.hex.specs.Text.{farthest}
-use Rattle.layout.specs.Entry.{direct, directFields, directWidths, free}
+use Rattle.layout.specs.Entry.{direct, directFields, directWidths, free, recounted, Storable}
 use Rattle.bits.specs.Fields.{Fit}
 use Rattle.tokens.specs.Permissions.{within, X}
 use Rattle.tokens.specs.Token.{named}
 use Rattle.layout.specs.declared.entry.Entry.{Entry}
 use Rattle.machine.specs.Demand3.{above, In, IsReset, itself, Owns, resets, Revokes, revokes}
+use Rattle.machine.specs.FreeTotal.{vacant}
 use Rattle.machine.specs.FromReset.{Has, Inside, owned}
 use Rattle.machine.specs.Images.{piecesOf}
 use Rattle.machine.specs.Issuing.{issue, newNumber}
@@ -26,7 +27,7 @@ use Rattle.machine.specs.Operations.{carried, childOf, climb, Effect, ef
 use Rattle.machine.specs.Parts.{at, put, size, spent, State}
 use Rattle.machine.specs.Requests.{access, clone, create, derive, dump, executeOnly, fetching, load, lock, merge, reading, release, Request, reset, revoke, taskOf, unlock, Way, writing}
 use Rattle.machine.specs.Stops.{checks}
-use Rattle.machine.specs.Writes.{Book, give, Name, opened, vacate, Write, write, written}
+use Rattle.machine.specs.Writes.{Book, give, Name, oneLess, opened, vacate, Write, write, written}
 use Rattle.machine.proofs.Basics.{neqb-true, owner-direct, parent, put-all, put2-all, range}
 use Rattle.machine.proofs.Choices.{by-cond}
 use Rattle.machine.proofs.Decided.{Passed, rest-passed}
@@ -35,6 +36,7 @@ use Rattle.machine.proofs.Fuel.{Live, number-first, revoke-least, walk-
 use Rattle.machine.proofs.PlaceLaws.{placed-touches}
 use Rattle.machine.proofs.Sums.{owned-direct, owned-other, sum-put2, sum-same}
 use Rattle.machine.proofs.TableLaws.{at-other, in-table, put-out, size-put}
+use Rattle.machine.proofs.Tallies.{Tally, tally-free, tally-give, tally-keep, tally-same, tally-then}
 use Rattle.machine.proofs.WriteLaws.{Calm, calm-still, release-calm}
 use Rattle.machine.proofs.Written.{direct-fit, fitting, free-good, Good, issue-direct, issue-indirect, parent-named, recount-good, relock-good}
 
@@ -82,11 +84,11 @@ module _ (m : ℕ) (s : State) (t : List ℕ) (inv : Inv m s t) where
   owns n k v = walk-owns (suc (at t n .nonce)) m t n (neqb-true (at t n .kind) 0 k) v
 
   -- no entry is written
-  pub deed-none : (q : Request) {s′ : State} {r : Reply} {f : Effect} → s .next ≤ s′ .next
+  pub deed-none : (q : Request) {s′ : State} {r : Reply} {f : Effect} → s .next ≤ s′ .next → s′ .total ≡ s .total
       → ((n x : ℕ) → Shut (taskOf q) (at t n) → (Revokes q n → ⊥) → Touches f x → In (at t n) x → ⊥)
       → Deed m s t q (record { state = s′; table = t; reply = r; issued = []; effect = f })
-  deed-none q {s′} up sp =
-      record { up = up; moves = stay; fate = unmoved q (s′ .next) []; carried = λ n x h. h; spared = sp; good = inv .good; long = refl; sum = refl }
+  deed-none q {s′} up same sp =
+      record { up = up; moves = stay; fate = unmoved q (s′ .next) []; carried = λ n x h. h; spared = sp; good = inv .good; long = refl; sum = refl; tally = tally-same t t refl same }
 
   -- a byte of an entry whose line is open to u is no byte of an entry that is locked for another task
   owner-shut : (k u : ℕ) → not (eqb (namedEntry t k .kind) 0) ≡ true → Live (lineOf m t (numberOf k)) → not (lockedFrom t u (lineOf m t (numberOf k))) ≡ true
@@ -99,7 +101,7 @@ module _ (m : ℕ) (s : State) (t : List ℕ) (inv : Inv m s t) where
 
   deed-access : (w : Way) (k u : ℕ) (b : List ℕ) → Passed (checks m s t (access w k u) b) → Deed m s t (access w k u) (carried s t (grant m t (access w k u) b))
   deed-access w k u b h =
-      deed-none (access w k u) (omega arith)
+      deed-none (access w k u) (omega arith) refl
       (λ i x sh nr tc ins.
       let tc′ = touched w _ b x tc in
       owner-shut k u (search) (search, search) (search) x (omega (arith, leb-true (named k .offset + length b) (namedEntry t k .length) (search))) i sh ins)
@@ -108,7 +110,7 @@ module _ (m : ℕ) (s : State) (t : List ℕ) (inv : Inv m s t) where
   deed-image : (q : Request) (k : ℕ) (n : ℕ) (f : Effect) → not (eqb (namedEntry t k .kind) 0) ≡ true → Live (lineOf m t (numberOf k)) → not (lockedFrom t (taskOf q) (lineOf m t (numberOf k))) ≡ true
       → ((x : ℕ) → Touches f x → In (namedEntry t k) x) → Deed m s t q (carried s t (effecting n f))
   deed-image q k n f full live op touches =
-      deed-none q (omega arith)
+      deed-none q (omega arith) refl
       (λ i x sh nr tc ins. owner-shut k (taskOf q) full live op x (touches x tc) i sh ins)
 
   has : {n x : ℕ} → Has t n x → Holds (at t n) x
@@ -116,11 +118,11 @@ module _ (m : ℕ) (s : State) (t : List ℕ) (inv : Inv m s t) where
 
   -- ---- one entry is written, over the segment that it had
 
-  deed-put : (q : Request) {n : ℕ} {e : Entry} {s′ : State} {r : Reply} {ks : List Name} {f : Effect} → s .next ≤ s′ .next → Good m e → at t n .kind ≢ 0 → Over e (at t n)
+  deed-put : (q : Request) {n : ℕ} {e : Entry} {s′ : State} {r : Reply} {ks : List Name} {f : Effect} → s .next ≤ s′ .next → s′ .total ≡ s .total → Good m e → at t n .kind ≢ 0 → Over e (at t n)
       → Fate s t q (s′ .next) ks stay n e
       → ((i x : ℕ) → Shut (taskOf q) (at t i) → (Revokes q i → ⊥) → Touches f x → In (at t i) x → ⊥)
       → Deed m s t q (record { state = s′; table = put t n e; reply = r; issued = ks; effect = f })
-  deed-put q {n} {e} {s′} {r} {ks} {f} up good full o fate sp =
+  deed-put q {n} {e} {s′} {r} {ks} {f} up same good full o fate sp =
       record {
         up = up;
         moves = stay;
@@ -131,7 +133,8 @@ module _ (m : ℕ) (s : State) (t : List ℕ) (inv : Inv m s t) where
         spared = sp;
         good = each (λ i y. Good m y) good (λ i j. inv .good i);
         long = size-put t n e;
-        sum = sum-same t (put t n e) (size-put t n e) (each (λ i y. owned y ≡ owned (at t i)) (rw (o .kind, o .length)) (λ i j. refl));
+        sum = sum-same (λ n e. owned e) t (put t n e) (size-put t n e) (each (λ i y. owned y ≡ owned (at t i)) (rw (o .kind, o .length)) (λ i j. refl));
+        tally = tally-same t (put t n e) (sum-same vacant t (put t n e) (size-put t n e) (each (λ i y. vacant i y ≡ vacant i (at t i)) (rw (o .kind)) (λ i j. refl))) same;
       }
     where
       each : (P : ℕ → Entry → Type 0) → P n e → ((i : ℕ) → i ≢ n → P i (at t i)) → (i : ℕ) → P i (at (put t n e) i)
@@ -146,10 +149,11 @@ module _ (m : ℕ) (s : State) (t : List ℕ) (inv : Inv m s t) where
 
   deed-put2 : (q : Request) {p n : ℕ} {a b : Entry} {s′ : State} {r : Reply} {ks : List Name} (g : ℕ → ℕ → ℕ) → s .next ≤ s′ .next → Good m a → Good m b → p < size t → n < size t → p ≢ n
       → owned a + owned b ≡ owned (at t p) + owned (at t n)
+      → Tally t (s .total) (put (put t p a) n b) (s′ .total)
       → Fate s t q (s′ .next) ks g n b → Fate s t q (s′ .next) ks g p a → ((i : ℕ) → i ≢ n → i ≢ p → (x : ℕ) → i ≡ g i x)
       → ((x : ℕ) → Has t n x → Lands p n a b (g n x) x) → ((x : ℕ) → Has t p x → Lands p n a b (g p x) x)
       → Deed m s t q (record { state = s′; table = put (put t p a) n b; reply = r; issued = ks; effect = nothing })
-  deed-put2 q {p} {n} {a} {b} {s′} {r} {ks} g up ga gb hp hn d sum nb pa others cn cp =
+  deed-put2 q {p} {n} {a} {b} {s′} {r} {ks} g up ga gb hp hn d sum count nb pa others cn cp =
       record {
         up = up;
         moves = g;
@@ -158,7 +162,8 @@ module _ (m : ℕ) (s : State) (t : List ℕ) (inv : Inv m s t) where
         spared = λ i x sh nr tc ins. spares x tc;
         good = each (λ i y. Good m y) gb ga (λ i j k. inv .good i);
         long = size-put (put t p a) n b ∙ size-put t p a;
-        sum = sum-put2 t p n a b (ga .storable) (gb .storable) hp hn d sum;
+        sum = omega (arith, sum-put2 (λ n e. owned e) t p n a b (ga .storable) (gb .storable) hp hn d, sum);
+        tally = count;
       }
     where
       each : (P : ℕ → Entry → Type 0) → P n b → P p a → ((i : ℕ) → i ≢ n → i ≢ p → P i (at t i)) → (i : ℕ) → P i (at (put (put t p a) n b) i)
@@ -182,6 +187,13 @@ module _ (m : ℕ) (s : State) (t : List ℕ) (inv : Inv m s t) where
   apart : {n p : ℕ} → at t n .kind ≢ 0 → at t p .kind ≡ 0 → p ≢ n
   apart k z e = k (rw (← e) z)
 
+  -- the new number is given, and an entry that was there is there still
+  given : newNumber s t ≢ 0 → {e : Entry} → Storable e → e .kind ≢ 0 → Tally t (s .total) (put t (newNumber s t) e) (oneLess (s .total))
+  given f {e} st k = tally-give t (newNumber s t) e (s .total) st k f (number-first s t f .inside) (number-first s t f .free)
+
+  beside : newNumber s t ≢ 0 → (e : Entry) (n : ℕ) → at t n .kind ≢ 0 → at (put t (newNumber s t) e) n .kind ≢ 0
+  beside f e n k = rw (at-other t (newNumber s t) n e (λ i. apart k (number-first s t f .free) (sym i))) k
+
   -- derive and execute-only: a child in the segment of n
   deed-derive : (q : Request) (n o l p c : ℕ) → at t n .kind ≢ 0 → newNumber s t ≢ 0 → 0 < l → o + l ≤ at t n .length → p < 8 → within p (at t n .permissions) ≡ true → at t n .count < 65535 → s .next + 1 ≤ spent
       → Deed m s t q (carried s t (grantDerive t n o l p c))
@@ -191,12 +203,15 @@ module _ (m : ℕ) (s : State) (t : List ℕ) (inv : Inv m s t) where
       let low : n < 1024 = omega arith in
       let whole = range m (at t n) k (inv .good n .formed) in
       let named-n : parentNumber (childOf n (at t n) o l p (s .next)) ≡ n = parent-named m n (at t n) (inv .good n) low in
+      let child-good : Good m (issue s (newNumber s t) (childOf n (at t n) o l p (s .next))) = issue-indirect m s (newNumber s t) n (inv .small) (inv .good n) low pos (omega arith) hp (omega arith) in
+      let parent-good : Good m (recounted (at t n) (at t n .count + 1)) = recount-good m (inv .good n) k (omega arith) (λ i. omega arith) in
       deed-put2 q stay
       (omega arith)
-      (issue-indirect m s (newNumber s t) n (inv .small) (inv .good n) low pos (omega arith) hp (omega arith))
-      (recount-good m (inv .good n) k (omega arith) (λ i. omega arith))
+      child-good
+      parent-good
       (number-first s t f .inside) in-n (apart k (number-first s t f .free))
       (omega (arith, owned-other (at t (newNumber s t)) (omega (arith, number-first s t f .free))))
+      (tally-then (given f (child-good .storable) (omega arith)) (tally-keep _ n _ _ (parent-good .storable) k (beside f _ n k)))
       (kept refl (λ x h. refl) (λ h. (refl, refl)))
       (issued (omega arith) (omega arith) (List·Memᴰ·head refl)
       (λ z. (refl, rw named-n (record { low = omega arith; high = omega arith; rights = hr })))
@@ -235,6 +250,7 @@ module _ (m : ℕ) (s : State) (t : List ℕ) (inv : Inv m s t) where
       deed-put2 q (split n new y) (omega arith)
       (a-good (omega arith)) (free-good m) (number-first s t f .inside) in-n (apart (omega arith) (number-first s t f .free))
       (omega (arith, owned-direct (at t n) k, owned-other (at t new) (omega (arith, number-first s t f .free))))
+      (tally-then (given f (a-good (omega arith) .storable) (omega arith)) (tally-free _ n _ (beside f a n (omega arith))))
       (gone refl unlocked)
       (issued (omega arith) (omega arith) (List·Memᴰ·head refl) (λ h. absurd (omega arith)) (λ h x i. part x i) (λ h. absurd (vacant h)))
       (λ i j v x. split-other n new y i x j)
@@ -242,11 +258,13 @@ module _ (m : ℕ) (s : State) (t : List ℕ) (inv : Inv m s t) where
       (λ x h. absurd (omega (arith, h .direct, number-first s t f .free))))
       (λ e v.
       let less : l ≢ at t n .length = eqb-false l (at t n .length) e in
+      let rest-good : Good m r = issue-direct m s n (inv .small) (omega arith) (omega (arith, whole)) (omega (arith, fit)) (omega (arith, fit)) (omega arith) (inv .good n .lockable k) in
       deed-put2 q (split n new y) (omega arith)
       (a-good (omega arith))
-      (issue-direct m s n (inv .small) (omega arith) (omega (arith, whole)) (omega (arith, fit)) (omega (arith, fit)) (omega arith) (inv .good n .lockable k))
+      rest-good
       (number-first s t f .inside) in-n (apart (omega arith) (number-first s t f .free))
       (omega (arith, owned-direct (at t n) k, owned-other (at t new) (omega (arith, number-first s t f .free))))
+      (tally-then (given f (a-good (omega arith) .storable) (omega arith)) (tally-keep _ n _ _ (rest-good .storable) (omega arith) (beside f a n (omega arith))))
       (issued (omega arith) (omega arith) (List·Memᴰ·tail (List·Memᴰ·head refl)) (λ h. absurd (omega arith))
       (λ h x i. record { from = n; has = record { direct = k; inside = omega arith }; to = split-back n new y x (i .0) })
       (λ h. absurd (unlocked h)))
@@ -312,13 +330,15 @@ module _ (m : ℕ) (s : State) (t : List ℕ) (inv : Inv m s t) where
       let whole = range m (at t n) (omega arith) (inv .good n .formed) in
       let whole′ = range m (at t k) (omega arith) (inv .good k .formed) in
       let fit : Fit directWidths (directFields (at t n)) = direct-fit m (at t n) (inv .good n) d in
+      let whole-good : Good m (issue s n (mergedOf (at t n) (at t k) (s .next))) = issue-direct m s n (inv .small) (omega arith) (omega arith) (omega arith) (omega (arith, and-le-l (at t n .permissions) (at t k .permissions))) (omega arith) (inv .good n .lockable d) in
+      let two : k ≢ n = λ e. let same : at t k .base ≡ at t n .base = ap (λ (x : ℕ). at t x .base) e in omega arith in
       deed-put2 q (fuse n k) (omega arith)
       (free-good m)
-      (issue-direct m s n (inv .small) (omega arith) (omega arith) (omega arith)
-      (omega (arith, and-le-l (at t n .permissions) (at t k .permissions))) (omega arith) (inv .good n .lockable d))
+      whole-good
       (in-table t k (omega arith)) (in-table t n (omega arith))
-      (λ e. let same : at t k .base ≡ at t n .base = ap (λ (x : ℕ). at t x .base) e in omega arith)
+      two
       (omega (arith, owned-direct (at t n) d, owned-direct (at t k) d′))
+      (tally-then (tally-free t k (s .total) (omega arith)) (tally-keep _ n _ _ (whole-good .storable) (omega arith) (rw (at-other t k n free (λ e. two (sym e))) (omega arith))))
       (issued (omega arith) (omega arith) (List·Memᴰ·head refl) (λ h. absurd (omega arith)) (λ h x i. from x i (decLt x (at t k .base))) (λ h. absurd (unlocked h z)))
       (gone refl (λ h. unlocked h z′))
       (λ i j v x. fuse-other n k i x v)
@@ -351,47 +371,57 @@ module _ (m : ℕ) (s : State) (t : List ℕ) (inv : Inv m s t) where
   fades-fades (freed i j) (stays k l g) = freed (ap (λ (x : Entry). x .kind) k ∙ i) j
   fades-fades (freed i j) (freed k l) = freed k j
 
-  -- tables of which every entry of the second is a faded one of the first, and good
-  record Fading (u u′ : List ℕ) : Type 0 where
+  -- tables of which every entry of the second is a faded one of the first, and good; and the total beside each
+  record Fading (u : List ℕ) (k : ℕ) (u′ : List ℕ) (k′ : ℕ) : Type 0 where
     each : (n : ℕ) → Fades (at u n) (at u′ n)
     good : (n : ℕ) → Good m (at u′ n)
     long : size u′ ≡ size u
+    tally : Tally u k u′ k′
 
-  put-fades : (u : List ℕ) → ((n : ℕ) → Good m (at u n)) → (n : ℕ) {e : Entry} → Fades (at u n) e → Good m e → Fading u (put u n e)
-  put-fades u gs n {e} h g = go (decLt n (size u))
-    where
-      go : Dec (n < size u) → Fading u (put u n e)
-      go (yes i) =
-          record {
-            each = put-all (λ k y. Fades (at u k) y) u n e (g .storable) i h (λ k j. same (at u k));
-            good = put-all (λ k y. Good m y) u n e (g .storable) i g (λ k j. gs k);
-            long = size-put u n e;
-          }
-      go (no i) = rw (put-out u n e (omega arith)) (record { each = λ k. same (at u k); good = gs; long = refl })
+  unfaded : (u : List ℕ) (k : ℕ) → ((n : ℕ) → Good m (at u n)) → Fading u k u k
+  unfaded u k gs = record { each = λ n. same (at u n); good = gs; long = refl; tally = tally-same u u refl refl }
 
-  climb-fades : (f : ℕ) (s : State) (u : List ℕ) (n : ℕ) → ((k : ℕ) → Good m (at u k)) → Fading u (written 0 (opened s u) (climb f u n) .table)
+  put-fades : (u : List ℕ) (k : ℕ) → ((n : ℕ) → Good m (at u n)) → (n : ℕ) {e : Entry} {k′ : ℕ} → at u n .kind ≢ 0 → Fades (at u n) e → Good m e → Tally u k (put u n e) k′ → Fading u k (put u n e) k′
+  put-fades u k gs n {e} full h g c =
+      let i : n < size u = in-table u n full in
+      record {
+        each = put-all (λ k y. Fades (at u k) y) u n e (g .storable) i h (λ k j. same (at u k));
+        good = put-all (λ k y. Good m y) u n e (g .storable) i g (λ k j. gs k);
+        long = size-put u n e;
+        tally = c;
+      }
+
+  climb-fades : (f : ℕ) (s : State) (u : List ℕ) (n : ℕ) → ((k : ℕ) → Good m (at u k)) → let b = written 0 (opened s u) (climb f u n) in Fading u (s .total) (b .table) (b .state .total)
   unfolding climb
-  climb-fades zero s u n gs = record { each = λ k. same (at u k); good = gs; long = refl }
+  climb-fades zero s u n gs = unfaded u (s .total) gs
   climb-fades (suc f) s u n gs =
       by-cond Left (leb 2 (at u n .count))
-      (λ i. put-fades u gs n (stays refl refl refl)
-      (recount-good m (gs n) (fitting m (at u n) (gs n) .counted (omega (arith, leb-true 2 (at u n .count) i))) (omega (arith, fitting m (at u n) (gs n))) (λ k. omega (arith, leb-true 2 (at u n .count) i))))
-      (λ i. by-cond Left (eqb (at u n .count) 0) (λ z. record { each = λ k. same (at u k); good = gs; long = refl })
+      (λ i. recounts (at u n .count - 1) (full (omega (arith, leb-true 2 (at u n .count) i))) (omega (arith, fitting m (at u n) (gs n))) (λ k. omega (arith, leb-true 2 (at u n .count) i)))
+      (λ i. by-cond Left (eqb (at u n .count) 0) (λ z. unfaded u (s .total) gs)
       (λ z. by-cond Left (eqb (at u n .kind) 1)
-      (λ j. put-fades u gs n (stays refl refl refl) (recount-good m (gs n) (omega (arith, eqb-true (at u n .kind) 1 j)) (omega arith) (λ k. absurd (omega (arith, eqb-true (at u n .kind) 1 j)))))
+      (λ j. recounts 0 (omega (arith, eqb-true (at u n .kind) 1 j)) (omega arith) (λ k. absurd (omega (arith, eqb-true (at u n .kind) 1 j))))
       (λ j.
-      let once : Fading u (put u n free) = put-fades u gs n (freed refl (eqb-false (at u n .kind) 1 j)) (free-good m) in
+      let there = full (eqb-false (at u n .count) 0 z) in
+      let once = put-fades u (s .total) gs n there (freed refl (eqb-false (at u n .kind) 1 j)) (free-good m) (tally-free u n (s .total) there) in
       by-cond (λ ws. Left (vacate n ∷ ws)) (linked u (at u n))
       (λ v.
       let more = climb-fades f (write 0 (opened s u) (vacate n) .state) (put u n free) (parentNumber (at u n)) (once .good) in
-      record { each = λ k. fades-fades (once .each k) (more .each k); good = more .good; long = more .long ∙ once .long })
+      record { each = λ k. fades-fades (once .each k) (more .each k); good = more .good; long = more .long ∙ once .long; tally = tally-then (once .tally) (more .tally) })
       (λ v. once))))
     where
       Left : List Write → Type 0
-      Left ws = Fading u (written 0 (opened s u) ws .table)
+      Left ws = let b = written 0 (opened s u) ws in Fading u (s .total) (b .table) (b .state .total)
+
+      full : at u n .count ≢ 0 → at u n .kind ≢ 0
+      full = fitting m (at u n) (gs n) .counted
+
+      recounts : (c : ℕ) → at u n .kind ≢ 0 → c < 65536 → (at u n .kind ≡ 2 → 1 ≤ c) → Fading u (s .total) (put u n (recounted (at u n) c)) (s .total)
+      recounts c there small some =
+          let g = recount-good m (gs n) there small some in
+          put-fades u (s .total) gs n there (stays refl refl refl) g (tally-keep u n _ (s .total) (g .storable) there there)
 
   -- writes that issue nothing, after which the table has faded
-  deed-fading : (q : Request) (ws : List Write) (k : ℕ) → Calm ws → Fading t (written 0 (opened s t) ws .table) → Deed m s t q (carried s t (record { writes = ws; encoding = 0; dropped = k; length = 0; effect = nothing }))
+  deed-fading : (q : Request) (ws : List Write) (k : ℕ) → Calm ws → (let b = written 0 (opened s t) ws in Fading t (s .total) (b .table) (b .state .total)) → Deed m s t q (carried s t (record { writes = ws; encoding = 0; dropped = k; length = 0; effect = nothing }))
   deed-fading q ws k c f =
       record {
         up = omega (arith, ap (λ (x : State). x .next) (calm-still 0 (opened s t) ws c .state));
@@ -401,7 +431,8 @@ module _ (m : ℕ) (s : State) (t : List ℕ) (inv : Inv m s t) where
         spared = λ n x sh nr tc ins. spares x tc;
         good = f .good;
         long = f .long;
-        sum = sum-same t t′ (f .long) (λ n. sums n (f .each n));
+        sum = sum-same (λ n e. owned e) t t′ (f .long) (λ n. sums n (f .each n));
+        tally = f .tally;
       }
     where
       b′ : Book
@@ -426,8 +457,8 @@ module _ (m : ℕ) (s : State) (t : List ℕ) (inv : Inv m s t) where
   deed-release k b =
       let n : ℕ = numberOf k in
       deed-fading (release k) (grantRelease m t n .writes) (grantRelease m t n .dropped) (release-calm m t n)
-      (by-cond (λ ws. Fading t (written 0 (opened s t) ws .table)) (eqb (at t n .count) 1 && isLocked t (lineOf m t n))
-      (λ i. record { each = λ n. same (at t n); good = inv .good; long = refl })
+      (by-cond (λ ws. let b = written 0 (opened s t) ws in Fading t (s .total) (b .table) (b .state .total)) (eqb (at t n .count) 1 && isLocked t (lineOf m t n))
+      (λ i. unfaded t (s .total) (inv .good))
       (λ i. climb-fades (suc (at t n .nonce)) s t n (inv .good)))
 
   -- ---- revoke and locks
@@ -441,7 +472,7 @@ module _ (m : ℕ) (s : State) (t : List ℕ) (inv : Inv m s t) where
   deed-revoke k c d hn =
       let n : ℕ = numberOf k in
       let up : s .next ≤ revokeNonce s t n = revoke-least s t n in
-      deed-put (revoke k c) (omega arith)
+      deed-put (revoke k c) (omega arith) refl
       (revoked-good n d hn)
       (omega arith)
       (record { kind = sym d; base = refl; length = refl })
@@ -456,7 +487,7 @@ module _ (m : ℕ) (s : State) (t : List ℕ) (inv : Inv m s t) where
   deed-lock q n locked h k v o hh a b =
       let l : Line = lineOf m t n in
       let d : at t (ownerOf l) .kind ≡ 1 = owner-direct (owns n k v) in
-      deed-put q (omega arith)
+      deed-put q (omega arith) refl
       (relock-good m (inv .good (ownerOf l)) d hh a b)
       (omega arith)
       (record { kind = refl; base = refl; length = refl })
@@ -515,7 +546,7 @@ module _ (m : ℕ) (s : State) (t : List ℕ) (inv : Inv m s t) where
   deed-granted (clone k) b nr h =
       let e : Entry = namedEntry t k in
       let full : e .kind ≢ 0 = neqb-true (e .kind) 0 (search) in
-      deed-put (clone k) (omega arith)
+      deed-put (clone k) (omega arith) refl
       (recount-good m (inv .good (numberOf k)) full (omega (arith, ltb-true (e .count) 65535 (search))) (λ i. omega arith))
       full (record { kind = refl; base = refl; length = refl }) (kept refl (λ x h. refl) (λ h. (refl, refl))) (λ i x sh nr tc ins. spares x tc)
   deed-granted (release k) b nr h = deed-release k b

@@ -17,6 +17,7 @@ use Rattle.machine.specs.Parts.{at, mostEntries, mostMemory, size, State
 use Rattle.machine.specs.Requests.{Request, taskOf}
 use Rattle.machine.specs.Writes.{Name, nameOf}
 use Rattle.machine.proofs.Basics.{Link, link, parent}
+use Rattle.machine.proofs.Tallies.{Tally}
 use Rattle.machine.proofs.Written.{Good}
 
 -- the entry without its count and its lock: all that an issue fixes
@@ -121,6 +122,7 @@ pub record Deed (m : ℕ) (s : State) (t : List ℕ) (q : Request) (d : Decision
   pub good : (n : ℕ) → Good m (at (d .table) n)
   pub long : size (d .table) ≡ size t
   pub sum : ownedInAll (d .table) ≡ ownedInAll t
+  pub tally : Tally t (s .total) (d .table) (d .state .total)
 
 module _ (m : ℕ) (s : State) (t : List ℕ) (q : Request) (d : Decision) (inv : Inv m s t) (deed : Deed m s t q d) where
   abbrev t′ : List ℕ

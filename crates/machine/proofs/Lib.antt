@@ -7,6 +7,7 @@ pub mod Depth
 pub mod Effects
 pub mod Examples
 pub mod Fates
+pub mod FreeTotal
 pub mod FromReset
 pub mod Fuel
 pub mod Given
@@ -22,6 +23,7 @@ pub mod Settled
 pub mod SliceLaws
 pub mod Sums
 pub mod TableLaws
+pub mod Tallies
 pub mod Theorem
 pub mod Unchanged
 pub mod WholeDerive

@@ -137,7 +137,7 @@ module _ (σ : Machine) (k u : ℕ) (b : List ℕ) where
       let a : Passed (checks m (σ .state) t (load k u) b) = accepted σ (loadCall k u b) ok .0 in
       let one = first-byte m t k (search) (search) (line-formed m t (numberOf k) (search)) in
       record {
-        access = granted-by σ (accessCall writing k u (0 ∷ [])) (search, (search, (search, (search, (search, (search, (search, (search, (search, (refl, (refl, (search, (search, (search, (search, (search, (search, (search, (one, (search, tt))))))))))))))))))));
+        access = granted-by σ (accessCall writing k u (0 ∷ [])) (search, (search, (search, (search, (search, (search, (search, (search, (search, (search, (refl, (refl, (search, (search, (search, (search, (search, (search, (search, (one, (search, tt)))))))))))))))))))));
         offset = eqb-true (named k .offset) 0 (search);
         short = leb-true (length b) 65536 (search);
         pieces = piecesOf b;
@@ -154,14 +154,14 @@ module _ (σ : Machine) (k u : ℕ) (b : List ℕ) where
       let thirteen = spared 13 b (h .pieces) (λ e. omega (arith, e)) (h .says) in
       let ends : leb (farthest (piecesOf b)) (lengthOf σ k) ≡ true = rw (pieces-are b (h .pieces) (h .says)) (le-leb (farthest (h .pieces)) (lengthOf σ k) (h .inside)) in
       granted-by σ (loadCall k u b)
-      (search, (search, (search, (search, (search, (search, (search, (search, (search, (offset, (long, (twelve, (thirteen, (search, (search, (search, (search, (search, (search, (search, (ends, (search, tt))))))))))))))))))))))
+      (search, (search, (search, (search, (search, (search, (search, (search, (search, (search, (offset, (long, (twelve, (thirteen, (search, (search, (search, (search, (search, (search, (search, (ends, (search, tt)))))))))))))))))))))))
 
   may-dump : Accepted σ (dumpCall k u b) → MayDump σ k u b
   may-dump ok =
       let a : Passed (checks m (σ .state) t (dump k u) b) = accepted σ (dumpCall k u b) ok .0 in
       let one = first-byte m t k (search) (search) (line-formed m t (numberOf k) (search)) in
       record {
-        access = granted-by σ (accessCall reading k u (0 ∷ [])) (search, (search, (search, (search, (search, (search, (search, (search, (search, (refl, (refl, (search, (search, (search, (search, (search, (search, (search, (one, (search, tt))))))))))))))))))));
+        access = granted-by σ (accessCall reading k u (0 ∷ [])) (search, (search, (search, (search, (search, (search, (search, (search, (search, (search, (refl, (refl, (search, (search, (search, (search, (search, (search, (search, (one, (search, tt)))))))))))))))))))));
         offset = eqb-true (named k .offset) 0 (search);
         short = leb-true (writtenLength (lengthOf σ k)) 65536 (search);
         room = leb-true (writtenLength (lengthOf σ k)) (length b) (search);
@@ -174,7 +174,7 @@ module _ (σ : Machine) (k u : ℕ) (b : List ℕ) where
       let long = le-leb (writtenLength (lengthOf σ k)) mostText (h .short) in
       let room = le-leb (writtenLength (lengthOf σ k)) (length b) (h .room) in
       granted-by σ (dumpCall k u b)
-      (search, (search, (search, (search, (search, (search, (search, (search, (search, (offset, (search, (search, (search, (search, (search, (search, (search, (long, (room, (search, tt))))))))))))))))))))
+      (search, (search, (search, (search, (search, (search, (search, (search, (search, (search, (offset, (search, (search, (search, (search, (search, (search, (search, (long, (room, (search, tt)))))))))))))))))))))
 
 pub as-accesses : AsAccesses
 as-accesses = record { loads = may-load; load = loaded-by; dumps = may-dump; dump = dumped-by }

@@ -108,7 +108,7 @@ rows-ordered m s t q b = row-of m s t q b .0
 
 pub rows-tasks : Tasks
 unfolding Tasks
-rows-tasks q = row-of 0 (begun 0 0 0) [] q [] .2
+rows-tasks q = row-of 0 (begun [] 0 0 0) [] q [] .2
 
 pub refusals-among : Among
 unfolding Among answer decide Stopped

@@ -9,11 +9,12 @@ use native.Mathlib.Decide.{decLt}
 use lib.ListN.{length}
 use borrow.Author.Tests.{leb-true}
 use Rattle.layout.specs.declared.entry.Entry.{Entry}
-use Rattle.machine.specs.Demand3.{Accepted, IsReset, issuedIn, NoReset, resetCall, Unreset}
-use Rattle.machine.specs.FromReset.{ownedInAll}
-use Rattle.machine.specs.Operations.{carried, grantReset}
-use Rattle.machine.specs.Parts.{at, begun, cleared, mostEntries, mostMemory, put, root, size}
-use Rattle.machine.specs.Requests.{Call, reset}
+use Rattle.machine.specs.Demand3.{Accepted, IsReset, issuedIn, NoReset, resetCall, resets, Unreset}
+use Rattle.machine.specs.FreeTotal.{freeInAll, vacant}
+use Rattle.machine.specs.FromReset.{owned, ownedInAll}
+use Rattle.machine.specs.Operations.{carried, grant, grantReset}
+use Rattle.machine.specs.Parts.{at, begun, cleared, mostEntries, mostFree, mostMemory, put, root, size}
+use Rattle.machine.specs.Requests.{Call, Request, reset}
 use Rattle.machine.specs.Steps.{decision, Machine, run, step}
 use Rattle.machine.specs.Stops.{checks}
 use Rattle.machine.specs.Writes.{nameOf}
@@ -22,9 +23,12 @@ use Rattle.machine.proofs.Decided.{accepted, away, Passed, taken, Turne
 use Rattle.machine.proofs.Deeds.{deed-granted, deed-none}
 use Rattle.machine.proofs.Effects.{memory-long}
 use Rattle.machine.proofs.Fates.{core, Deed, Inv, inv-step, new-given, old-core, spares}
+use Rattle.machine.proofs.Grants.{either, granted-fits}
 use Rattle.machine.proofs.Lent.{as-long}
-use Rattle.machine.proofs.Sums.{sum-first}
+use Rattle.machine.proofs.Sums.{owned-cleared, sum-first, vacant-cleared}
 use Rattle.machine.proofs.TableLaws.{at-cleared, at-same, size-cleared, size-put}
+use Rattle.machine.proofs.Tallies.{Tally}
+use Rattle.machine.proofs.WriteLaws.{Within}
 use Rattle.machine.proofs.Written.{direct-good, free-good, Good}
 
 -- ---- one request
@@ -45,7 +49,7 @@ deed-of σ q inv nr = go (turned σ q)
 
     go : Turned σ q → Deed m (σ .state) (σ .table) (q .request) (decision σ q)
     go (taken a p e) = rw e (deed-granted m (σ .state) (σ .table) inv (q .request) (q .buffer) (λ i. nr i a) p)
-    go (away r e na) = rw e (deed-none m (σ .state) (σ .table) inv (q .request) (omega arith) (λ n x sh nr tc ins. spares x tc))
+    go (away r e na) = rw e (deed-none m (σ .state) (σ .table) inv (q .request) (omega arith) refl (λ n x sh nr tc ins. spares x tc))
 
 module _ (σ : Machine) (q : Call) (inv : Well σ) (nr : NotReset σ q) where
   pub step-well : Well (step σ q)
@@ -60,6 +64,10 @@ module _ (σ : Machine) (q : Call) (inv : Well σ) (nr : NotReset σ q) where
   unfolding step
   step-sum = deed-of σ q inv nr .sum
 
+  pub step-tally : Tally (σ .table) (σ .state .total) (step σ q .table) (step σ q .state .total)
+  unfolding step
+  step-tally = deed-of σ q inv nr .tally
+
   step-old : (n : ℕ) → at (step σ q .table) n .kind ≢ 0 → at (step σ q .table) n .nonce < σ .state .next → core (at (step σ q .table) n) ≡ core (at (σ .table) n)
   unfolding step
   step-old = old-core (length (σ .memory)) (σ .state) (σ .table) (q .request) (decision σ q) inv (deed-of σ q inv nr)
@@ -68,6 +76,28 @@ module _ (σ : Machine) (q : Call) (inv : Well σ) (nr : NotReset σ q) where
       → List·Memᴰ (nameOf n (at (step σ q .table) n)) (decision σ q .issued)
   unfolding step
   step-new = new-given (length (σ .memory)) (σ .state) (σ .table) (q .request) (decision σ q) inv (deed-of σ q inv nr)
+
+-- a request is a granted reset, or it is not
+pub data Reset (σ : Machine) : Call → Type 0 where
+  anew : (k0 k1 ν : ℕ) (b : List ℕ) → Accepted σ (resetCall k0 k1 ν b) → Reset σ (resetCall k0 k1 ν b)
+  other : {q : Call} → NotReset σ q → Reset σ q
+
+pub reset-or-not : (σ : Machine) (q : Call) → Reset σ q
+reset-or-not σ q = go (turned σ q)
+  where
+    m : ℕ
+    m = length (σ .memory)
+
+    by : (r : Request) (b : List ℕ) → IsReset r → Accepted σ (record { request = r; buffer = b }) → Reset σ (record { request = r; buffer = b })
+    by _ b (resets {k0} {k1} {ν}) a = anew k0 k1 ν b a
+
+    -- a reset's write is none of another request's
+    clash : (r : Request) (b : List ℕ) → IsReset r → Within (size (σ .table)) (grant m (σ .table) r b .writes) → ⊥
+    clash _ b resets w = w
+
+    go : Turned σ q → Reset σ q
+    go (taken a p e) = either (λ i. by (q .request) (q .buffer) i a) (λ w. other (λ i a. clash (q .request) (q .buffer) i w)) (granted-fits m (σ .state) (σ .table) (q .request) (q .buffer) p .within)
+    go (away r e na) = other (λ i a. na a)
 
 -- ---- lists
 
@@ -158,7 +188,7 @@ module _ (m : ℕ) (t : List ℕ) (k0 k1 ν : ℕ) (lo : 1 ≤ m) (hi : m ≤ mo
   only n k (whole a e) = (a, e)
   only n k (none z) = absurd (k z)
 
-  pub reset-inv : Inv m (begun k0 k1 ν) clean
+  pub reset-inv : Inv m (begun t k0 k1 ν) clean
   reset-inv =
       record {
         below = λ n k. omega (arith, ap (λ (x : Entry). x .nonce) (only n k (firsts n) .1));
@@ -171,7 +201,10 @@ module _ (m : ℕ) (t : List ℕ) (k0 k1 ν : ℕ) (lo : 1 ≤ m) (hi : m ≤ mo
       }
 
   pub reset-sum : ownedInAll clean ≡ m
-  reset-sum = sum-first t (root m) (root-good .storable) (omega arith)
+  reset-sum = omega (arith, sum-first (λ n e. owned e) t (root m) (root-good .storable) (omega arith), owned-cleared t)
+
+  pub reset-count : freeInAll clean ≡ mostFree t
+  reset-count = omega (arith, sum-first vacant t (root m) (root-good .storable) (omega arith), vacant-cleared t)
 
 -- a granted reset over any machine
 module _ (σ : Machine) (k0 k1 ν : ℕ) (b : List ℕ) (ok : Accepted σ (resetCall k0 k1 ν b)) where
@@ -206,3 +239,7 @@ module _ (σ : Machine) (k0 k1 ν : ℕ) (b : List ℕ) (ok : Accepted σ (reset
   pub sum-reset : ownedInAll (step σ (resetCall k0 k1 ν b) .table) ≡ length (step σ (resetCall k0 k1 ν b) .memory)
   unfolding step
   sum-reset = rw (fine .1) (reset-sum m t k0 k1 ν lo hi least most pos)
+
+  pub count-reset : step σ (resetCall k0 k1 ν b) .state .total ≡ freeInAll (step σ (resetCall k0 k1 ν b) .table)
+  unfolding step
+  count-reset = rw (fine .1) (sym (reset-count m t k0 k1 ν lo hi least most pos))

@@ -8,7 +8,7 @@ use lib.ListN.{length}
 use borrow.Author.Tests.{le-leb, leb-true, lt-ltb, ltb-true}
 use Rattle.machine.specs.Demand3.{Accepted, IsReset, resetCall, Unreset}
 use Rattle.machine.specs.Operations.{book, grant}
-use Rattle.machine.specs.Parts.{mostEntries, size, spent, State}
+use Rattle.machine.specs.Parts.{mostEntries, mostFree, size, spent, State}
 use Rattle.machine.specs.Requests.{Call, Request, reset}
 use Rattle.machine.specs.Steps.{decision, Machine, run, step}
 use Rattle.machine.specs.Stops.{checks, settings, sizes}
@@ -23,16 +23,21 @@ record InOrder (z : ℕ) (s : State) : Type 0 where
   last : s .last < z
   least : 1 ≤ s .next
   most : s .next ≤ spent
+  total : s .total < z
 
 in-order : (s : State) (t : List ℕ) → AllTrue (settings s t) → InOrder (size t) s
-in-order s t h = record { last = ltb-true _ _ (h .0); least = leb-true _ _ (h .1 .0); most = leb-true _ _ (h .1 .1 .0) }
+in-order s t h =
+    let last : s .last < size t = ltb-true _ _ (h .0) in
+    record { last = last; least = leb-true _ _ (h .1 .0); most = leb-true _ _ (h .1 .1 .0); total = omega (arith, leb-true (s .total) (mostFree t) (h .1 .1 .1 .0)) }
 
 granted-order : (m : ℕ) (s : State) (t : List ℕ) (q : Request) (b : List ℕ) → (IsReset q → ⊥) → InOrder (size t) s → Passed (checks m s t q b) → InOrder (size t) (book s t (grant m t q b) .state)
 granted-order m s t q b nr o p =
     let g = grant m t q b in
     let some : 0 < size t = omega (arith, o .last) in
+    let numbered = numbered-after (g .encoding) (size t) (size t) some (omega arith) (opened s t) (g .writes) (record { ranged = record { sized = refl; total = o .total }; last = o .last }) in
     record {
-      last = numbered-after (g .encoding) (size t) (size t) some (omega arith) (opened s t) (g .writes) (record { sized = refl; last = o .last }) .last;
+      last = numbered .last;
+      total = numbered .ranged .total;
       least = omega (arith, o .least, next-up (g .encoding) (size t) (opened s t) (g .writes) (unless (granted-fits m s t q b p .within) nr));
       most = nonces-passed m s t q b p;
     }
@@ -46,7 +51,7 @@ unfolding step size
 settled σ q z h =
     let table : length (decision σ q .table) ≡ length (σ .table) = as-long σ q .table in
     let memory = as-long σ q .memory in
-    rw (table, memory) (true-join (sizes (length (σ .memory)) (σ .table)) (settings (decision σ q .state) (σ .table)) z (lt-ltb _ _ (h .last), (le-leb _ _ (h .least), (le-leb _ _ (h .most), tt))))
+    rw (table, memory) (true-join (sizes (length (σ .memory)) (σ .table)) (settings (decision σ q .state) (σ .table)) z (lt-ltb _ _ (h .last), (le-leb _ _ (h .least), (le-leb _ _ (h .most), (le-leb _ (mostFree (σ .table)) (omega (arith, h .total)), tt)))))
 
 -- after a granted reset, and after any request that is no granted reset
 pub settled-reset : (σ : Machine) (k0 k1 ν : ℕ) (b : List ℕ) → Accepted σ (resetCall k0 k1 ν b) → Settled (step σ (resetCall k0 k1 ν b))
@@ -61,6 +66,7 @@ settled-reset σ k0 k1 ν b ok =
       last = omega (arith, leb-true 2 (size (σ .table)) (z .1 .1 .1 .0));
       least = leb-true 1 ν (search);
       most = nonces-passed (length (σ .memory)) (σ .state) (σ .table) q b p;
+      total = omega (arith, leb-true 2 (size (σ .table)) (z .1 .1 .1 .0));
     }))
 
 pub settled-step : (σ : Machine) (q : Call) → (IsReset (q .request) → Accepted σ q → ⊥) → Settled σ → Settled (step σ q)
@@ -87,6 +93,7 @@ pub record StateFits (s : State) : Type 0 where
   pub key1 : s .key1 < 2 ^ 64
   pub last : s .last < 2 ^ 64
   pub next : s .next < 2 ^ 64
+  pub total : s .total < 2 ^ 64
 
 -- and so have the keys of the request, if it is a reset
 pub data KeysFit : Request → Type 0 where
@@ -107,17 +114,27 @@ words-stay σ q k h = go (turned σ q)
     m = length (σ .memory)
 
     granted-words : (r : Request) → KeysFit r → Passed (checks m s t r (q .buffer)) → StateFits (book s t (grant m t r (q .buffer)) .state)
-    granted-words _ (keys k0 k1 ν a b) p = record { key0 = a; key1 = b; last = omega arith; next = omega (arith, nonces-passed m s t (reset k0 k1 ν) (q .buffer) p) }
+    granted-words _ (keys k0 k1 ν a b) p =
+        let z = sizes-passed m s t (reset k0 k1 ν) (q .buffer) p in
+        record {
+          key0 = a;
+          key1 = b;
+          last = omega arith;
+          next = omega (arith, nonces-passed m s t (reset k0 k1 ν) (q .buffer) p);
+          total = omega (arith, leb-true (size t) mostEntries (z .1 .1 .1 .1 .0));
+        }
     granted-words r (none n) p =
         let g = grant m t r (q .buffer) in
         let z = sizes-passed m s t r (q .buffer) p in
         let two : 2 ≤ size t = leb-true 2 (size t) (z .1 .1 .1 .0) in
         let most : size t ≤ 1024 = leb-true (size t) mostEntries (z .1 .1 .1 .1 .0) in
         let same = key-kept (g .encoding) (size t) (opened s t) (g .writes) (unless (granted-fits m s t r (q .buffer) p .within) n) in
+        let numbered = numbered-after (g .encoding) (size t) (2 ^ 64) (omega arith) (omega arith) (opened s t) (g .writes) (record { ranged = record { sized = refl; total = h .total }; last = h .last }) in
         record {
           key0 = rw (same .0) (h .key0);
           key1 = rw (same .1) (h .key1);
-          last = numbered-after (g .encoding) (size t) (2 ^ 64) (omega arith) (omega arith) (opened s t) (g .writes) (record { sized = refl; last = h .last }) .last;
+          last = numbered .last;
+          total = numbered .ranged .total;
           next = omega (arith, nonces-passed m s t r (q .buffer) p);
         }
 

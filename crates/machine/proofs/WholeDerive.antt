@@ -22,13 +22,13 @@ use Rattle.machine.specs.Given.{nameIn}
 use Rattle.machine.specs.Issuing.{issue, newNumber}
 use Rattle.machine.specs.Line.{dead, ill, Line, linked, lineOf, lockedFrom, owner, ownerOf, parentNumber, walk}
 use Rattle.machine.specs.Operations.{childOf, Grant, grant, namedEntry, numberOf}
-use Rattle.machine.specs.Parts.{at, moved, mostEntries, mostMemory, put, size, spent, State}
+use Rattle.machine.specs.Parts.{at, mostEntries, mostFree, mostMemory, moved, put, size, spent, State}
 use Rattle.machine.specs.Requests.{access, Call, derive, rightOf, Way}
 use Rattle.machine.specs.Searches.{FirstFree}
 use Rattle.machine.specs.Steps.{answer, decide, Machine, pass, settle, step, stop, Verdict, verdict}
 use Rattle.machine.specs.Stops.{atRequest, Check, checks, needAll, noncesLeft, places, refusalNumber, settings, sizes, taskFits, transferFits}
 use Rattle.machine.specs.WholeDerive.{accessCall, AsExecuteOnly, Bounds, deriveCall, lengthOf, Parts, PassedOn, Whole}
-use Rattle.machine.specs.Writes.{Name, nameOf, tokenFor}
+use Rattle.machine.specs.Writes.{Name, nameOf, oneLess, tokenFor}
 use Rattle.machine.proofs.Basics.{link, neqb-true, owner-direct, parent, range}
 use Rattle.machine.proofs.Choices.{by-both, by-cond}
 use Rattle.machine.proofs.Decided.{accepted, AllTrue, need-all, Passed, passed-join, passing, sizes-passed, true-join}
@@ -229,7 +229,7 @@ module _ (σ : Machine) (fine : Sound σ) (k p c : ℕ) (b : List ℕ) (ok : Acc
       names s c new (childOf n e 0 (e .length) p (s .next)) (leb-true c 3 (search)) (omega (arith, first .inside, most))
 
   abbrev s′ : State
-  s′ = moved s new (s .next + 1)
+  s′ = moved s new (s .next + 1) (oneLess (s .total))
 
   abbrev σ′ : Machine
   σ′ = record { state = s′; table = t′; memory = σ .memory }
@@ -260,7 +260,7 @@ module _ (σ : Machine) (fine : Sound σ) (k p c : ℕ) (b : List ℕ) (ok : Acc
         let wide : size t′ ≡ size t = size-put _ _ _ ∙ size-put _ _ _ in
         true-join (sizes m t′) (settings s′ t′ ++ (taskFits u ∷ transferFits d)) (rw (long, wide) (sizes-passed m s t (access w y u) d h))
         (true-join (settings s′ t′) (taskFits u ∷ transferFits d)
-        (rw wide (lt-ltb new (size t) (first .inside)), (le-leb 1 (s .next + 1) (omega arith), (le-leb (s .next + 1) spent left-nonce, tt)))
+        (rw wide (lt-ltb new (size t) (first .inside)), (le-leb 1 (s .next + 1) (omega arith), (le-leb (s .next + 1) spent left-nonce, (rw wide (le-leb (oneLess (s .total)) (mostFree t) (omega (arith, leb-true (s .total) (mostFree t) (search)))), tt))))
         (search, (search, (search, tt))))
 
     -- the others

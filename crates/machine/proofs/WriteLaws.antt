@@ -3,13 +3,14 @@
 use mathlib.Core.Path.{_≡_, refl, sym, ap, ap₂, _∙_}
 use mathlib.Core.Bool.{_&&_}
 use mathlib.Core.List.{List, [], _∷_, _++_}
-use Prim.Native.Nat.{ℕ, zero, suc, _+_, _^_, _≤_, _<_}
+use Prim.Native.Nat.{ℕ, zero, suc, _+_, _-_, _^_, _≤_, _<_}
 use native.Mathlib.Nat.{mod-lt}
 use native.Mathlib.Omega.{arith}
 use native.Mathlib.Decide.{ℕ-discrete}
-use lib.Dec.{eqb, leb}
+use lib.Dec.{eqb, leb, ltb}
 use lib.ListN.{length, length-append}
 use lib.Pow.{pow-pos}
+use borrow.Author.Tests.{ltb-true}
 use Rattle.layout.specs.Tag.{tagOf}
 use Rattle.layout.specs.declared.entry.Entry.{Entry}
 use Rattle.tokens.specs.Token.{NamedFits}
@@ -19,8 +20,8 @@ use Rattle.machine.specs.Given.{AllWords, nameIn, namesIn}
 use Rattle.machine.specs.Issuing.{issue, newNumber}
 use Rattle.machine.specs.Line.{isLocked, lineOf, linked, parentNumber}
 use Rattle.machine.specs.Operations.{climb, grantRelease}
-use Rattle.machine.specs.Parts.{at, cleared, put, root, size, State}
-use Rattle.machine.specs.Writes.{alter, begin, Book, entered, give, Name, nameOf, otherNonce, reissue, renew, tokenFor, vacate, vacated, Write, write, written}
+use Rattle.machine.specs.Parts.{at, cleared, put, root, size, State, totalled}
+use Rattle.machine.specs.Writes.{alter, begin, Book, entered, give, Name, nameOf, oneLess, oneMore, otherNonce, reissue, renew, tokenFor, vacate, vacated, Write, write, written}
 use Rattle.machine.proofs.Choices.{by-cond}
 use Rattle.machine.proofs.Fuel.{number-first, pass-over}
 use Rattle.machine.proofs.TableLaws.{size-cleared, size-put}
@@ -41,7 +42,7 @@ module _ (P : List ℕ → Type 0) (puts : (t : List ℕ) (n : ℕ) (e : Entry) 
   table-after b [] h = h
   table-after b (w ∷ ws) h = table-after (write c b w) ws (table-written b w h)
 
--- ---- the last number
+-- ---- the last number and the free total
 
 -- a new number is inside, and 0 where there is none
 number-inside : (s : State) (t : List ℕ) → 0 < size t → newNumber s t < size t
@@ -51,23 +52,48 @@ number-inside s t h = go (ℕ-discrete (newNumber s t) 0)
     go (yes z) = omega arith
     go (no z) = number-first s t z .inside
 
--- a table of z entries, and a last number below a bound that all of them are below
-pub record Numbered (z top : ℕ) (b : Book) : Type 0 where
+-- one number more or less is free: the total stays below a bound that all numbers are below
+less-inside : (k top : ℕ) → k < top → oneLess k < top
+less-inside k top h = omega arith
+
+more-inside : (z n k top : ℕ) → z ≤ top → k < top → oneMore (z - 1) n k < top
+more-inside z n k top all h =
+    by-cond (λ x. x < top) (eqb n 0) (λ i. h) (λ i. by-cond (λ x. x < top) (ltb k (z - 1)) (λ j. omega (arith, ltb-true k (z - 1) j)) (λ j. h))
+
+-- a table of z entries, and a free total below a bound that all numbers are below
+pub record Ranged (z top : ℕ) (b : Book) : Type 0 where
   pub sized : size (b .table) ≡ z
+  pub total : b .state .total < top
+
+-- and so the last number
+pub record Numbered (z top : ℕ) (b : Book) : Type 0 where
+  pub ranged : Ranged z top b
   pub last : b .state .last < top
 
 module _ (c z top : ℕ) (some : 0 < z) (all : z ≤ top) where
-  numbered-written : (b : Book) (w : Write) → Numbered z top b → Numbered z top (write c b w)
-  numbered-written b (begin m k0 k1 ν) g = record { sized = size-put (cleared (b .table)) 0 (root m) ∙ size-cleared (b .table) ∙ g .sized; last = omega arith }
-  numbered-written b (give e) g = record { sized = size-put _ _ _ ∙ g .sized; last = omega (arith, g .sized, number-inside (b .state) (b .table) (omega (arith, g .sized))) }
-  numbered-written b (reissue k e) g = record { sized = size-put _ _ _ ∙ g .sized; last = g .last }
-  numbered-written b (renew k e) g = record { sized = size-put _ _ _ ∙ g .sized; last = g .last }
-  numbered-written b (vacate k) g = record { sized = size-put _ _ _ ∙ g .sized; last = g .last }
-  numbered-written b (alter k e) g = record { sized = size-put _ _ _ ∙ g .sized; last = g .last }
+  ranged-written : (b : Book) (w : Write) → Ranged z top b → Ranged z top (write c b w)
+  ranged-written b (begin m k0 k1 ν) g = record { sized = size-put (cleared (b .table)) 0 (root m) ∙ size-cleared (b .table) ∙ g .sized; total = omega (arith, g .sized) }
+  ranged-written b (give e) g = record { sized = size-put _ _ _ ∙ g .sized; total = less-inside _ top (g .total) }
+  ranged-written b (reissue k e) g = record { sized = size-put _ _ _ ∙ g .sized; total = g .total }
+  ranged-written b (renew k e) g = record { sized = size-put _ _ _ ∙ g .sized; total = g .total }
+  ranged-written b (vacate k) g = record { sized = size-put _ _ _ ∙ g .sized; total = more-inside (size (b .table)) k _ top (omega (arith, g .sized)) (g .total) }
+  ranged-written b (alter k e) g = record { sized = size-put _ _ _ ∙ g .sized; total = g .total }
+
+  pub ranged-after : (b : Book) (ws : List Write) → Ranged z top b → Ranged z top (written c b ws)
+  ranged-after b [] g = g
+  ranged-after b (w ∷ ws) g = ranged-after (write c b w) ws (ranged-written b w g)
+
+  last-written : (b : Book) (w : Write) → Numbered z top b → write c b w .state .last < top
+  last-written b (begin m k0 k1 ν) g = omega arith
+  last-written b (give e) g = omega (arith, g .ranged .sized, number-inside (b .state) (b .table) (omega (arith, g .ranged .sized)))
+  last-written b (reissue k e) g = g .last
+  last-written b (renew k e) g = g .last
+  last-written b (vacate k) g = g .last
+  last-written b (alter k e) g = g .last
 
   pub numbered-after : (b : Book) (ws : List Write) → Numbered z top b → Numbered z top (written c b ws)
   numbered-after b [] g = g
-  numbered-after b (w ∷ ws) g = numbered-after (write c b w) ws (numbered-written b w g)
+  numbered-after b (w ∷ ws) g = numbered-after (write c b w) ws (record { ranged = ranged-written b w (g .ranged); last = last-written b w g })
 
 -- ---- nonces and tokens
 
@@ -152,8 +178,8 @@ pub record Told (z : ℕ) (b : Book) : Type 0 where
   pub words : AllWords (b .tokens)
 
 module _ (c z : ℕ) (encoded : c ≤ 3) (some : 0 < z) (most : z ≤ 1024) where
-  one-more : (b : Book) (last n ν : ℕ) (e : ℕ → Entry) → n < z → Told z b → Told z (entered c b last n ν e)
-  one-more b last n ν e h g =
+  one-more : (b : Book) (last total n ν : ℕ) (e : ℕ → Entry) → n < z → Told z b → Told z (entered c b last total n ν e)
+  one-more b last total n ν e h g =
       let k : ℕ = tokenFor c (nameOf n (issue (b .state) n (e ν))) in
       record {
         sized = size-put _ _ _ ∙ g .sized;
@@ -165,9 +191,9 @@ module _ (c z : ℕ) (encoded : c ≤ 3) (some : 0 < z) (most : z ≤ 1024) wher
   named-after b [] h g = g
   named-after b (begin m k0 k1 ν ∷ ws) h g = absurd h
   named-after b (give e ∷ ws) h g =
-      named-after (write c b (give e)) ws h (one-more b _ (newNumber (b .state) (b .table)) (b .state .next) e (omega (arith, number-inside (b .state) (b .table) (omega (arith, g .sized)), g .sized)) g)
-  named-after b (reissue n e ∷ ws) h g = named-after (write c b (reissue n e)) ws (h .1) (one-more b _ n (b .state .next) e (h .0) g)
-  named-after b (renew n e ∷ ws) h g = named-after (write c b (renew n e)) ws (h .1) (one-more b _ n (otherNonce (b .state) (b .table) n e) e (h .0) g)
+      named-after (write c b (give e)) ws h (one-more b _ _ (newNumber (b .state) (b .table)) (b .state .next) e (omega (arith, number-inside (b .state) (b .table) (omega (arith, g .sized)), g .sized)) g)
+  named-after b (reissue n e ∷ ws) h g = named-after (write c b (reissue n e)) ws (h .1) (one-more b _ _ n (b .state .next) e (h .0) g)
+  named-after b (renew n e ∷ ws) h g = named-after (write c b (renew n e)) ws (h .1) (one-more b _ _ n (otherNonce (b .state) (b .table) n e) e (h .0) g)
   named-after b (vacate n ∷ ws) h g = named-after (write c b (vacate n)) ws h (record { sized = size-put _ _ _ ∙ g .sized; named = g .named; words = g .words })
   named-after b (alter n e ∷ ws) h g = named-after (write c b (alter n e)) ws h (record { sized = size-put _ _ _ ∙ g .sized; named = g .named; words = g .words })
 
@@ -200,9 +226,9 @@ calm-within z (renew n e ∷ ws) h = absurd h
 calm-within z (vacate n ∷ ws) h = calm-within z ws h
 calm-within z (alter n e ∷ ws) h = calm-within z ws h
 
--- they leave the state, and give no token
+-- they leave the state but for its free total, and give no token
 pub record Still (b b′ : Book) : Type 0 where
-  pub state : b′ .state ≡ b .state
+  pub state : b′ .state ≡ totalled (b .state) (b′ .state .total)
   pub issued : b′ .issued ≡ b .issued
   pub tokens : b′ .tokens ≡ b .tokens
 

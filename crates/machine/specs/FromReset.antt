@@ -18,17 +18,20 @@ use Rattle.machine.specs.Requests.{Call}
 use Rattle.machine.specs.Steps.{Machine, pass, run, step, verdict}
 use Rattle.machine.specs.Stops.{atRequest, needAll, settings, sizes}
 
--- how many bytes an entry owns: a direct one its length, any other none
+-- a number for each entry, added up over the first k entries, and over all
+unfoldable pub addedBelow : (ℕ → Entry → ℕ) → List ℕ → ℕ → ℕ
+addedBelow f t zero = 0
+addedBelow f t (suc k) = addedBelow f t k + f k (at t k)
+
+abbrev pub added : (ℕ → Entry → ℕ) → List ℕ → ℕ
+added f t = addedBelow f t (size t)
+
+-- how many bytes an entry owns: a direct one its length, any other none; and how many all own together
 abbrev pub owned : Entry → ℕ
 owned e = cond (eqb (e .kind) 1) (e .length) 0
 
--- how many the first k entries own together, and how many all
-unfoldable pub ownedBelow : List ℕ → ℕ → ℕ
-ownedBelow t zero = 0
-ownedBelow t (suc k) = ownedBelow t k + owned (at t k)
-
 abbrev pub ownedInAll : List ℕ → ℕ
-ownedInAll t = ownedBelow t (size t)
+ownedInAll t = added (λ n e. owned e) t
 
 -- byte x lies in the segment of the direct entry n, which is its owner
 pub record Has (t : List ℕ) (n x : ℕ) : Type 0 where

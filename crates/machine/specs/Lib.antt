@@ -1,5 +1,6 @@
 pub mod Demand3
 pub mod Depth
+pub mod FreeTotal
 pub mod FromReset
 pub mod Given
 pub mod Images

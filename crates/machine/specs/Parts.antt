@@ -2,7 +2,7 @@
 -- Assumes nothing.
 use mathlib.Core.Bool.{true, cond}
 use mathlib.Core.List.{List, _++_}
-use Prim.Native.Nat.{ℕ, _*_, _/_}
+use Prim.Native.Nat.{ℕ, _-_, _*_, _/_}
 use lib.Dec.{ltb}
 use lib.ListN.{length, take, drop, replicate}
 use Rattle.layout.specs.Entry.{direct, entryAt, entryBytes, free}
@@ -33,23 +33,32 @@ unfoldable pub put : List ℕ → ℕ → Entry → List ℕ
 put t n e = cond (ltb n (size t)) (take (32 * n) t ++ (entryBytes e ++ drop 32 (drop (32 * n) t))) t
 
 -- "State: a 128-bit key (two 64-bit words, as SipHash reads its 16 bytes), the last number given (inside the table), and the next nonce
--- (1 to 4,294,967,296; the last means spent)."
+-- (1 to 4,294,967,296; the last means spent)." 02, paper 3: "The state gains a kept total of free numbers without number 0".
 pub record State : Type 0 where
   pub key0 : ℕ
   pub key1 : ℕ
   pub last : ℕ
   pub next : ℕ
+  pub total : ℕ
 
 abbrev pub spent : ℕ
 spent = 4294967296
 
--- the state with another last number and next nonce
-abbrev pub moved : State → (last next : ℕ) → State
-moved s l ν = record { key0 = s .key0; key1 = s .key1; last = l; next = ν }
+-- "the total may not exceed entries minus one": as many numbers but 0 as the table has, and so many are free after reset
+abbrev pub mostFree : List ℕ → ℕ
+mostFree t = size t - 1
 
--- the state as reset leaves it: "the last number 0, the next nonce that first one"
-abbrev pub begun : (key0 key1 firstNonce : ℕ) → State
-begun k0 k1 ν = record { key0 = k0; key1 = k1; last = 0; next = ν }
+-- the state with another last number, next nonce and free total
+abbrev pub moved : State → (last next total : ℕ) → State
+moved s l ν k = record { key0 = s .key0; key1 = s .key1; last = l; next = ν; total = k }
+
+-- the state with another free total
+abbrev pub totalled : State → (total : ℕ) → State
+totalled s k = moved s (s .last) (s .next) k
+
+-- the state as reset leaves it beside the table t: "the last number 0, the next nonce that first one", and every number but 0 free
+abbrev pub begun : List ℕ → (key0 key1 firstNonce : ℕ) → State
+begun t k0 k1 ν = record { key0 = k0; key1 = k1; last = 0; next = ν; total = mostFree t }
 
 -- "Reset [..] writes entry 0, the root: direct, base 0, all of memory, count 0, permissions R, W and X, Lockable, tag 0, nonce 0. All other
 -- entries become zeros."

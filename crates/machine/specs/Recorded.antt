@@ -19,10 +19,10 @@ over b q = record { request = q; buffer = b }
 abbrev pub zeros : ℕ → List ℕ
 zeros n = replicate n 0
 
-abbrev pub known : (key0 key1 last next : ℕ) → State
-known a b l ν = record { key0 = a; key1 = b; last = l; next = ν }
+abbrev pub known : (key0 key1 last next total : ℕ) → State
+known a b l ν k = record { key0 = a; key1 = b; last = l; next = ν; total = k }
 
--- what a request comes to: its answer but for the buffer, the two words of the state that move, and its effect
+-- what a request comes to: its answer but for the buffer, the three words of the state that move, and its effect
 pub record Told : Type 0 where
   pub refusal : ℕ
   pub bad : ℕ
@@ -31,6 +31,7 @@ pub record Told : Type 0 where
   pub length : ℕ
   pub last : ℕ
   pub next : ℕ
+  pub total : ℕ
   pub effect : Effect
 
 pub record Row : Type 0 where
@@ -38,15 +39,15 @@ pub record Row : Type 0 where
   pub told : Told
 
 -- a row of a granted request, and of a refused one
-abbrev pub grants : Call → (tokens : List ℕ) (dropped last next : ℕ) → Effect → Row
-grants q ks d l ν f = record { call = q; told = record { refusal = 0; bad = 0; tokens = ks; dropped = d; length = 0; last = l; next = ν; effect = f } }
+abbrev pub grants : Call → (tokens : List ℕ) (dropped last next total : ℕ) → Effect → Row
+grants q ks d l ν k f = record { call = q; told = record { refusal = 0; bad = 0; tokens = ks; dropped = d; length = 0; last = l; next = ν; total = k; effect = f } }
 
 -- of a granted dump, by its text's length
-abbrev pub dumps : Call → (length last next : ℕ) → Effect → Row
-dumps q n l ν f = record { call = q; told = record { refusal = 0; bad = 0; tokens = []; dropped = 0; length = n; last = l; next = ν; effect = f } }
+abbrev pub dumps : Call → (length last next total : ℕ) → Effect → Row
+dumps q n l ν k f = record { call = q; told = record { refusal = 0; bad = 0; tokens = []; dropped = 0; length = n; last = l; next = ν; total = k; effect = f } }
 
-abbrev pub refuses : Call → (refusal bad last next : ℕ) → Row
-refuses q r b l ν = record { call = q; told = record { refusal = r; bad = b; tokens = []; dropped = 0; length = 0; last = l; next = ν; effect = nothing } }
+abbrev pub refuses : Call → (refusal bad last next total : ℕ) → Row
+refuses q r b l ν k = record { call = q; told = record { refusal = r; bad = b; tokens = []; dropped = 0; length = 0; last = l; next = ν; total = k; effect = nothing } }
 
 -- A session over a memory of so many bytes: state and table at its start, its rows, and the table that it leaves. An entry of a table is one number of 32
 -- bytes, "Byte 0 holds the top bits".
@@ -68,7 +69,7 @@ pub record Outcome : Type 0 where
 
 -- of the machine
 abbrev toldOf : Decision → Told
-toldOf d = record { refusal = d .reply .refusal; bad = d .reply .bad; tokens = d .reply .tokens; dropped = d .reply .dropped; length = d .reply .length; last = d .state .last; next = d .state .next; effect = d .effect }
+toldOf d = record { refusal = d .reply .refusal; bad = d .reply .bad; tokens = d .reply .tokens; dropped = d .reply .dropped; length = d .reply .length; last = d .state .last; next = d .state .next; total = d .state .total; effect = d .effect }
 
 abbrev pub served : Session → Outcome
 served s =
@@ -80,8 +81,8 @@ abbrev pub recorded : Session → Outcome
 recorded s = record { told = map (λ (r : Row). r .told) (s .rows); table = tableOf (s .left) }
 
 -- a request alone, with its refusal, over a table of so many zeros
-abbrev pub limit : (memory table last next : ℕ) → Call → (refusal : ℕ) → printed.Row
-limit m n l ν q r = record { given = decide m (known 0 0 l ν) (zeros n) (q .request) (q .buffer) .reply .refusal ∷ []; printed = r ∷ [] }
+abbrev pub limit : (memory table last next total : ℕ) → Call → (refusal : ℕ) → printed.Row
+limit m n l ν k q r = record { given = decide m (known 0 0 l ν k) (zeros n) (q .request) (q .buffer) .reply .refusal ∷ []; printed = r ∷ [] }
 
 -- the buffers that a list of requests hands back, one after the other, and the memory that it leaves
 abbrev buffersIn : List Answer → List ℕ

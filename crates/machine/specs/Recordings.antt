@@ -1,7 +1,7 @@
 -- Sessions as the second implementation (bench/model, written from the papers alone) served them: its answers, its state and the bytes of its table. No number
 -- here was had from the definitions; bench/model/tests/recordings.rs holds the model to each row. A granted row: tokens, drop's number, last number, next
--- nonce, effect; a dump: its text's length, last number, next nonce, effect; a refused one: refusal, which entry was bad, last number, next nonce. The model
--- hands back buffer and memory; an effect is told by which of their bytes changed.
+-- nonce, free total, effect; a dump: its text's length, last number, next nonce, free total, effect; a refused one: refusal, which entry was bad, last number,
+-- next nonce, free total. The model hands back buffer and memory; an effect is told by which of their bytes changed.
 -- Assumes nothing.
 use mathlib.Core.List.{List, [], _∷_}
 use Prim.Native.Nat.{ℕ}
@@ -41,46 +41,46 @@ handed =
 abbrev fromReset : Session
 fromReset = record {
   memory = 24;
-  state = known 0 0 0 0;
+  state = known 0 0 0 0 9;
   table = 0 ∷ 0 ∷ 0 ∷ 0 ∷ 0 ∷ [];
   rows =
-      grants (plain (reset 0x706050403020100 0xf0e0d0c0b0a0908 1)) [] 0 0 1 nothing
-      ∷ grants (plain (create 0 0 8 9 6 2)) (0xafb3c00000010000 ∷ 0x898ac00000000000 ∷ []) 0 1 3 nothing
-      ∷ grants (plain (derive 0xafb3c00000010000 2 5 6 3)) (0xf5c0000002000000 ∷ []) 0 2 4 nothing
-      ∷ grants (plain (derive 0xf5c0000002000000 1 2 4 1)) (0x5cc2000000000003 ∷ []) 0 3 5 nothing
-      ∷ grants (plain (executeOnly 0x898ac00000000000 0)) (0x3259800400000000 ∷ []) 0 4 6 nothing
-      ∷ refuses (plain (executeOnly 0x898ac00000000000 0)) 10 0 4 6
-      ∷ refuses (plain (derive 0xafb3c00000010000 0 1 0 0)) 10 0 4 6
-      ∷ refuses (plain (create 0xafb3c00000010000 0 8 0 0 0)) 9 0 4 6
+      grants (plain (reset 0x706050403020100 0xf0e0d0c0b0a0908 1)) [] 0 0 1 4 nothing
+      ∷ grants (plain (create 0 0 8 9 6 2)) (0xafb3c00000010000 ∷ 0x898ac00000000000 ∷ []) 0 1 3 3 nothing
+      ∷ grants (plain (derive 0xafb3c00000010000 2 5 6 3)) (0xf5c0000002000000 ∷ []) 0 2 4 2 nothing
+      ∷ grants (plain (derive 0xf5c0000002000000 1 2 4 1)) (0x5cc2000000000003 ∷ []) 0 3 5 1 nothing
+      ∷ grants (plain (executeOnly 0x898ac00000000000 0)) (0x3259800400000000 ∷ []) 0 4 6 0 nothing
+      ∷ refuses (plain (executeOnly 0x898ac00000000000 0)) 10 0 4 6 0
+      ∷ refuses (plain (derive 0xafb3c00000010000 0 1 0 0)) 10 0 4 6 0
+      ∷ refuses (plain (create 0xafb3c00000010000 0 8 0 0 0)) 9 0 4 6 0
       -- accesses at a segment's edges
-      ∷ grants (over (zeros 13) (access reading 0x898ac00000000003 0)) [] 0 4 6 (fetch 11 13)
-      ∷ grants (over (200 ∷ []) (access writing 0xf5c0000002000004 0)) [] 0 4 6 (store 6 (200 ∷ []))
-      ∷ refuses (over (200 ∷ 201 ∷ []) (access writing 0xf5c0000002000004 0)) 8 0 4 6
-      ∷ grants (over (zeros 1) (access fetching 0x325980040000000f 0)) [] 0 4 6 (fetch 23 1)
-      ∷ grants (plain (clone 0xf5c0000002000000)) [] 0 4 6 nothing
+      ∷ grants (over (zeros 13) (access reading 0x898ac00000000003 0)) [] 0 4 6 0 (fetch 11 13)
+      ∷ grants (over (200 ∷ []) (access writing 0xf5c0000002000004 0)) [] 0 4 6 0 (store 6 (200 ∷ []))
+      ∷ refuses (over (200 ∷ 201 ∷ []) (access writing 0xf5c0000002000004 0)) 8 0 4 6 0
+      ∷ grants (over (zeros 1) (access fetching 0x325980040000000f 0)) [] 0 4 6 0 (fetch 23 1)
+      ∷ grants (plain (clone 0xf5c0000002000000)) [] 0 4 6 0 nothing
       -- a lock through the grandchild, again, by another; drops under it
-      ∷ grants (plain (lock 0x5cc2000000000003 7)) [] 0 4 6 nothing
-      ∷ grants (plain (lock 0xafb3c00000010000 7)) [] 0 4 6 nothing
-      ∷ refuses (plain (lock 0xf5c0000002000000 8)) 5 0 4 6
-      ∷ refuses (over (zeros 1) (access reading 0x5cc2000000000003 0)) 5 0 4 6
-      ∷ grants (over (zeros 2) (access reading 0x5cc2000000000003 7)) [] 0 4 6 (fetch 3 2)
-      ∷ grants (plain (release 0x5cc2000000000003)) [] 0 4 6 nothing
-      ∷ grants (plain (release 0xf5c0000002000000)) [] 0 4 6 nothing
-      ∷ refuses (plain (unlock 0x5cc2000000000003 8)) 5 0 4 6
-      ∷ grants (plain (unlock 0x5cc2000000000003 7)) [] 0 4 6 nothing
-      ∷ refuses (plain (unlock 0xafb3c00000010000 7)) 9 0 4 6
+      ∷ grants (plain (lock 0x5cc2000000000003 7)) [] 0 4 6 0 nothing
+      ∷ grants (plain (lock 0xafb3c00000010000 7)) [] 0 4 6 0 nothing
+      ∷ refuses (plain (lock 0xf5c0000002000000 8)) 5 0 4 6 0
+      ∷ refuses (over (zeros 1) (access reading 0x5cc2000000000003 0)) 5 0 4 6 0
+      ∷ grants (over (zeros 2) (access reading 0x5cc2000000000003 7)) [] 0 4 6 0 (fetch 3 2)
+      ∷ grants (plain (release 0x5cc2000000000003)) [] 0 4 6 0 nothing
+      ∷ grants (plain (release 0xf5c0000002000000)) [] 0 4 6 0 nothing
+      ∷ refuses (plain (unlock 0x5cc2000000000003 8)) 5 0 4 6 0
+      ∷ grants (plain (unlock 0x5cc2000000000003 7)) [] 0 4 6 0 nothing
+      ∷ refuses (plain (unlock 0xafb3c00000010000 7)) 9 0 4 6 0
       -- a drop that climbs; a merge once nothing is counted
-      ∷ grants (plain (release 0xf5c0000002000000)) [] 0 4 6 nothing
-      ∷ grants (plain (release 0x5cc2000000000003)) [] 1 4 6 nothing
-      ∷ refuses (plain (merge 0xafb3c00000010000 0x898ac00000000000 0 3)) 9 0 4 6
-      ∷ grants (plain (release 0x3259800400000000)) [] 1 4 6 nothing
-      ∷ refuses (plain (release 0x898ac00000000000)) 9 0 4 6
-      ∷ grants (plain (merge 0xafb3c00000010000 0x898ac00000000000 0 3)) (0xc14a800001000000 ∷ []) 0 4 7 nothing
-      ∷ refuses (over (zeros 1) (access reading 0xafb3c00000010000 0)) 2 0 4 7
+      ∷ grants (plain (release 0xf5c0000002000000)) [] 0 4 6 0 nothing
+      ∷ grants (plain (release 0x5cc2000000000003)) [] 1 4 6 2 nothing
+      ∷ refuses (plain (merge 0xafb3c00000010000 0x898ac00000000000 0 3)) 9 0 4 6 2
+      ∷ grants (plain (release 0x3259800400000000)) [] 1 4 6 3 nothing
+      ∷ refuses (plain (release 0x898ac00000000000)) 9 0 4 6 3
+      ∷ grants (plain (merge 0xafb3c00000010000 0x898ac00000000000 0 3)) (0xc14a800001000000 ∷ []) 0 4 7 3 nothing
+      ∷ refuses (over (zeros 1) (access reading 0xafb3c00000010000 0)) 2 0 4 7 3
       -- a revoke
-      ∷ grants (plain (revoke 0xc14a800001000000 1)) (0x7bcf000000000001 ∷ []) 0 4 8 (store 0 (zeros 24))
-      ∷ grants (over (zeros 24) (access reading 0x7bcf000000000001 0)) [] 0 4 8 (fetch 0 24)
-      ∷ refuses (over (zeros 1) (access reading 0 0)) 2 0 4 8
+      ∷ grants (plain (revoke 0xc14a800001000000 1)) (0x7bcf000000000001 ∷ []) 0 4 8 3 (store 0 (zeros 24))
+      ∷ grants (over (zeros 24) (access reading 0x7bcf000000000001 0)) [] 0 4 8 3 (fetch 0 24)
+      ∷ refuses (over (zeros 1) (access reading 0 0)) 2 0 4 8 3
       ∷ [];
   left =
       0
@@ -95,144 +95,144 @@ fromReset = record {
 abbrev handedOver : Session
 handedOver = record {
   memory = 64;
-  state = known 1 2 14 100;
+  state = known 1 2 14 100 15;
   table = handed;
   rows =
       -- access
-      refuses (over (zeros 1) (access reading 0x4028000000000000 36028797018963968)) 1 0 14 100
-      ∷ refuses (over [] (access reading 0x4028000000000000 0)) 1 0 14 100
-      ∷ refuses (over (zeros 1) (access reading 0x1000000000 0)) 2 0 14 100
-      ∷ refuses (over (zeros 1) (access reading 0xf00000000 0)) 2 0 14 100
-      ∷ refuses (over (zeros 1) (access reading 0x8028400000000000 0)) 2 0 14 100
-      ∷ refuses (over (zeros 1) (access reading 0x4029400000000005 0)) 3 1 14 100
-      ∷ refuses (over (200 ∷ []) (access writing 0x29800600000000 0)) 3 2 14 100
-      ∷ refuses (over (zeros 1) (access reading 0x402ac0000000000b 0)) 3 1 14 100
-      ∷ refuses (over (zeros 1) (access reading 0x4029c00000000007 0)) 4 1 14 100
-      ∷ refuses (over (200 ∷ []) (access writing 0x402a000000000008 0)) 4 2 14 100
-      ∷ refuses (over (zeros 1) (access fetching 0x402a80000000000a 0)) 4 1 14 100
-      ∷ refuses (over (zeros 1) (access reading 0x4028400000000001 8)) 5 0 14 100
-      ∷ refuses (over (zeros 1) (access reading 0x4028800000000002 0)) 5 0 14 100
-      ∷ refuses (over (200 ∷ 201 ∷ 202 ∷ 203 ∷ 204 ∷ 205 ∷ 206 ∷ 207 ∷ 208 ∷ []) (access writing 0x4028800000000002 7)) 7 0 14 100
-      ∷ refuses (over (zeros 1) (access reading 0x4028c00000000003 0)) 7 0 14 100
-      ∷ refuses (over (zeros 1) (access fetching 0x4029000000000004 0)) 7 0 14 100
-      ∷ refuses (over (zeros 1) (access reading 0x402a400000000009 0)) 7 0 14 100
-      ∷ refuses (over (zeros 1) (access reading 0x28000000000010 0)) 8 0 14 100
-      ∷ refuses (over (zeros 2) (access reading 0x2800000000000f 0)) 8 0 14 100
-      ∷ grants (over (zeros 1) (access reading 0x2800000000000f 36028797018963967)) [] 0 14 100 (fetch 15 1)
+      refuses (over (zeros 1) (access reading 0x4028000000000000 36028797018963968)) 1 0 14 100 15
+      ∷ refuses (over [] (access reading 0x4028000000000000 0)) 1 0 14 100 15
+      ∷ refuses (over (zeros 1) (access reading 0x1000000000 0)) 2 0 14 100 15
+      ∷ refuses (over (zeros 1) (access reading 0xf00000000 0)) 2 0 14 100 15
+      ∷ refuses (over (zeros 1) (access reading 0x8028400000000000 0)) 2 0 14 100 15
+      ∷ refuses (over (zeros 1) (access reading 0x4029400000000005 0)) 3 1 14 100 15
+      ∷ refuses (over (200 ∷ []) (access writing 0x29800600000000 0)) 3 2 14 100 15
+      ∷ refuses (over (zeros 1) (access reading 0x402ac0000000000b 0)) 3 1 14 100 15
+      ∷ refuses (over (zeros 1) (access reading 0x4029c00000000007 0)) 4 1 14 100 15
+      ∷ refuses (over (200 ∷ []) (access writing 0x402a000000000008 0)) 4 2 14 100 15
+      ∷ refuses (over (zeros 1) (access fetching 0x402a80000000000a 0)) 4 1 14 100 15
+      ∷ refuses (over (zeros 1) (access reading 0x4028400000000001 8)) 5 0 14 100 15
+      ∷ refuses (over (zeros 1) (access reading 0x4028800000000002 0)) 5 0 14 100 15
+      ∷ refuses (over (200 ∷ 201 ∷ 202 ∷ 203 ∷ 204 ∷ 205 ∷ 206 ∷ 207 ∷ 208 ∷ []) (access writing 0x4028800000000002 7)) 7 0 14 100 15
+      ∷ refuses (over (zeros 1) (access reading 0x4028c00000000003 0)) 7 0 14 100 15
+      ∷ refuses (over (zeros 1) (access fetching 0x4029000000000004 0)) 7 0 14 100 15
+      ∷ refuses (over (zeros 1) (access reading 0x402a400000000009 0)) 7 0 14 100 15
+      ∷ refuses (over (zeros 1) (access reading 0x28000000000010 0)) 8 0 14 100 15
+      ∷ refuses (over (zeros 2) (access reading 0x2800000000000f 0)) 8 0 14 100 15
+      ∷ grants (over (zeros 1) (access reading 0x2800000000000f 36028797018963967)) [] 0 14 100 15 (fetch 15 1)
       -- load and dump
-      ∷ refuses (over ended (load 0xf00000000 0)) 2 0 14 100
-      ∷ refuses (over ended (load 0x4029400000000005 0)) 3 1 14 100
-      ∷ refuses (over ended (load 0x29800600000000 0)) 3 2 14 100
-      ∷ refuses (over ended (load 0x4029c00000000007 0)) 4 1 14 100
-      ∷ refuses (over ended (load 0x402a000000000008 0)) 4 2 14 100
-      ∷ refuses (over ended (load 0x4028800000000002 0)) 5 0 14 100
-      ∷ refuses (over ended (load 0x402a400000000009 0)) 7 0 14 100
-      ∷ refuses (over (zeros 56) (dump 0xf00000000 0)) 2 0 14 100
-      ∷ refuses (over (zeros 56) (dump 0x4029400000000005 0)) 3 1 14 100
-      ∷ refuses (over (zeros 56) (dump 0x29800600000000 0)) 3 2 14 100
-      ∷ refuses (over (zeros 56) (dump 0x4029c00000000007 0)) 4 1 14 100
-      ∷ refuses (over (zeros 56) (dump 0x402a000000000008 0)) 4 2 14 100
-      ∷ refuses (over (zeros 56) (dump 0x4028800000000002 0)) 5 0 14 100
-      ∷ refuses (over (zeros 56) (dump 0x4028c00000000003 0)) 7 0 14 100
-      ∷ dumps (over (zeros 72) (dump 0x28000000000000 36028797018963967)) 72 14 100 (text 0 16)
-      ∷ grants (over ended (load 0x28000000000000 36028797018963967)) [] 0 14 100 nothing
+      ∷ refuses (over ended (load 0xf00000000 0)) 2 0 14 100 15
+      ∷ refuses (over ended (load 0x4029400000000005 0)) 3 1 14 100 15
+      ∷ refuses (over ended (load 0x29800600000000 0)) 3 2 14 100 15
+      ∷ refuses (over ended (load 0x4029c00000000007 0)) 4 1 14 100 15
+      ∷ refuses (over ended (load 0x402a000000000008 0)) 4 2 14 100 15
+      ∷ refuses (over ended (load 0x4028800000000002 0)) 5 0 14 100 15
+      ∷ refuses (over ended (load 0x402a400000000009 0)) 7 0 14 100 15
+      ∷ refuses (over (zeros 56) (dump 0xf00000000 0)) 2 0 14 100 15
+      ∷ refuses (over (zeros 56) (dump 0x4029400000000005 0)) 3 1 14 100 15
+      ∷ refuses (over (zeros 56) (dump 0x29800600000000 0)) 3 2 14 100 15
+      ∷ refuses (over (zeros 56) (dump 0x4029c00000000007 0)) 4 1 14 100 15
+      ∷ refuses (over (zeros 56) (dump 0x402a000000000008 0)) 4 2 14 100 15
+      ∷ refuses (over (zeros 56) (dump 0x4028800000000002 0)) 5 0 14 100 15
+      ∷ refuses (over (zeros 56) (dump 0x4028c00000000003 0)) 7 0 14 100 15
+      ∷ dumps (over (zeros 72) (dump 0x28000000000000 36028797018963967)) 72 14 100 15 (text 0 16)
+      ∷ grants (over ended (load 0x28000000000000 36028797018963967)) [] 0 14 100 15 nothing
       -- create
-      ∷ refuses (plain (create 0x4028000000000000 36028797018963968 1 0 0 0)) 1 0 14 100
-      ∷ refuses (plain (create 0x4028000000000000 0 1 0 0 4)) 1 0 14 100
-      ∷ refuses (plain (create 0x4028000000000000 0 1 0 8 0)) 1 0 14 100
-      ∷ refuses (plain (create 0x4028000000000000 0 0 0 0 0)) 1 0 14 100
-      ∷ refuses (plain (create 0x28000000000001 0 1 0 0 0)) 1 0 14 100
-      ∷ refuses (plain (create 0x402bc0000000000f 0 1 0 0 0)) 2 0 14 100
-      ∷ refuses (plain (create 0x4029400000000005 0 1 0 0 0)) 3 1 14 100
-      ∷ refuses (plain (create 0x402a000000000008 0 1 0 0 0)) 4 2 14 100
-      ∷ refuses (plain (create 0x4028400000000001 8 1 0 0 0)) 5 0 14 100
-      ∷ refuses (plain (create 0x4028800000000002 7 1 0 7 0)) 6 0 14 100
-      ∷ refuses (plain (create 0x4028c00000000003 0 9 0 4 0)) 7 0 14 100
-      ∷ refuses (plain (create 0x4028000000000000 0 17 0 7 0)) 8 0 14 100
-      ∷ refuses (plain (create 0x4028400000000001 7 1 0 7 0)) 9 0 14 100
-      ∷ refuses (plain (create 0x402b80000000000e 0 1 0 7 0)) 9 0 14 100
+      ∷ refuses (plain (create 0x4028000000000000 36028797018963968 1 0 0 0)) 1 0 14 100 15
+      ∷ refuses (plain (create 0x4028000000000000 0 1 0 0 4)) 1 0 14 100 15
+      ∷ refuses (plain (create 0x4028000000000000 0 1 0 8 0)) 1 0 14 100 15
+      ∷ refuses (plain (create 0x4028000000000000 0 0 0 0 0)) 1 0 14 100 15
+      ∷ refuses (plain (create 0x28000000000001 0 1 0 0 0)) 1 0 14 100 15
+      ∷ refuses (plain (create 0x402bc0000000000f 0 1 0 0 0)) 2 0 14 100 15
+      ∷ refuses (plain (create 0x4029400000000005 0 1 0 0 0)) 3 1 14 100 15
+      ∷ refuses (plain (create 0x402a000000000008 0 1 0 0 0)) 4 2 14 100 15
+      ∷ refuses (plain (create 0x4028400000000001 8 1 0 0 0)) 5 0 14 100 15
+      ∷ refuses (plain (create 0x4028800000000002 7 1 0 7 0)) 6 0 14 100 15
+      ∷ refuses (plain (create 0x4028c00000000003 0 9 0 4 0)) 7 0 14 100 15
+      ∷ refuses (plain (create 0x4028000000000000 0 17 0 7 0)) 8 0 14 100 15
+      ∷ refuses (plain (create 0x4028400000000001 7 1 0 7 0)) 9 0 14 100 15
+      ∷ refuses (plain (create 0x402b80000000000e 0 1 0 7 0)) 9 0 14 100 15
       -- merge
-      ∷ refuses (plain (merge 0x4028c00000000003 0x4029000000000004 36028797018963968 0)) 1 0 14 100
-      ∷ refuses (plain (merge 0x4028c00000000003 0x4029000000000004 0 4)) 1 0 14 100
-      ∷ refuses (plain (merge 0x28c00300000001 0x4029000000000004 0 0)) 1 0 14 100
-      ∷ refuses (plain (merge 0x4028c00000000003 0x29000400000001 0 0)) 1 0 14 100
-      ∷ refuses (plain (merge 0x402bc0000000000f 0x4029400000000005 0 0)) 2 0 14 100
-      ∷ refuses (plain (merge 0x4028c00000000003 0x402bc0000000000f 0 0)) 2 0 14 100
-      ∷ refuses (plain (merge 0x4029400000000005 0x402bc0000000000f 0 0)) 3 1 14 100
-      ∷ refuses (plain (merge 0x4028c00000000003 0x4029800000000006 0 0)) 3 2 14 100
-      ∷ refuses (plain (merge 0x4029c00000000007 0x402bc0000000000f 0 0)) 4 1 14 100
-      ∷ refuses (plain (merge 0x4028c00000000003 0x402a000000000008 0 0)) 4 2 14 100
-      ∷ refuses (plain (merge 0x4028400000000001 0x402bc0000000000f 8 0)) 5 0 14 100
-      ∷ refuses (plain (merge 0x4028000000000000 0x4028400000000001 8 0)) 5 0 14 100
-      ∷ refuses (plain (merge 0x402b00000000000c 0x4029000000000004 0 0)) 6 0 14 100
-      ∷ refuses (plain (merge 0x4028c00000000003 0x402b00000000000c 0 0)) 6 0 14 100
-      ∷ refuses (plain (merge 0x4029000000000004 0x4028c00000000003 0 0)) 8 0 14 100
-      ∷ refuses (plain (merge 0x4029000000000004 0x4029000000000004 0 0)) 8 0 14 100
-      ∷ refuses (plain (merge 0x4028000000000000 0x4028400000000001 7 0)) 9 0 14 100
-      ∷ refuses (plain (merge 0x4028400000000001 0x4028c00000000003 7 0)) 9 0 14 100
-      ∷ refuses (plain (merge 0x4029000000000004 0x402b80000000000e 0 0)) 9 0 14 100
-      ∷ refuses (plain (merge 0x402b80000000000e 0x402b40000000000d 0 0)) 9 0 14 100
+      ∷ refuses (plain (merge 0x4028c00000000003 0x4029000000000004 36028797018963968 0)) 1 0 14 100 15
+      ∷ refuses (plain (merge 0x4028c00000000003 0x4029000000000004 0 4)) 1 0 14 100 15
+      ∷ refuses (plain (merge 0x28c00300000001 0x4029000000000004 0 0)) 1 0 14 100 15
+      ∷ refuses (plain (merge 0x4028c00000000003 0x29000400000001 0 0)) 1 0 14 100 15
+      ∷ refuses (plain (merge 0x402bc0000000000f 0x4029400000000005 0 0)) 2 0 14 100 15
+      ∷ refuses (plain (merge 0x4028c00000000003 0x402bc0000000000f 0 0)) 2 0 14 100 15
+      ∷ refuses (plain (merge 0x4029400000000005 0x402bc0000000000f 0 0)) 3 1 14 100 15
+      ∷ refuses (plain (merge 0x4028c00000000003 0x4029800000000006 0 0)) 3 2 14 100 15
+      ∷ refuses (plain (merge 0x4029c00000000007 0x402bc0000000000f 0 0)) 4 1 14 100 15
+      ∷ refuses (plain (merge 0x4028c00000000003 0x402a000000000008 0 0)) 4 2 14 100 15
+      ∷ refuses (plain (merge 0x4028400000000001 0x402bc0000000000f 8 0)) 5 0 14 100 15
+      ∷ refuses (plain (merge 0x4028000000000000 0x4028400000000001 8 0)) 5 0 14 100 15
+      ∷ refuses (plain (merge 0x402b00000000000c 0x4029000000000004 0 0)) 6 0 14 100 15
+      ∷ refuses (plain (merge 0x4028c00000000003 0x402b00000000000c 0 0)) 6 0 14 100 15
+      ∷ refuses (plain (merge 0x4029000000000004 0x4028c00000000003 0 0)) 8 0 14 100 15
+      ∷ refuses (plain (merge 0x4029000000000004 0x4029000000000004 0 0)) 8 0 14 100 15
+      ∷ refuses (plain (merge 0x4028000000000000 0x4028400000000001 7 0)) 9 0 14 100 15
+      ∷ refuses (plain (merge 0x4028400000000001 0x4028c00000000003 7 0)) 9 0 14 100 15
+      ∷ refuses (plain (merge 0x4029000000000004 0x402b80000000000e 0 0)) 9 0 14 100 15
+      ∷ refuses (plain (merge 0x402b80000000000e 0x402b40000000000d 0 0)) 9 0 14 100 15
       -- derive
-      ∷ refuses (plain (derive 0x4028000000000000 0 1 0 4)) 1 0 14 100
-      ∷ refuses (plain (derive 0x4028000000000000 0 1 8 0)) 1 0 14 100
-      ∷ refuses (plain (derive 0x4028000000000000 0 0 0 0)) 1 0 14 100
-      ∷ refuses (plain (derive 0x28000000000001 0 1 0 0)) 1 0 14 100
-      ∷ refuses (plain (derive 0x402bc0000000000f 0 1 0 0)) 2 0 14 100
-      ∷ refuses (plain (derive 0x4029800000000006 0 1 0 0)) 3 2 14 100
-      ∷ refuses (plain (derive 0x4029c00000000007 0 1 0 0)) 4 1 14 100
-      ∷ refuses (plain (derive 0x4028800000000002 0 9 2 0)) 7 0 14 100
-      ∷ refuses (plain (derive 0x4028000000000000 1 16 7 0)) 8 0 14 100
+      ∷ refuses (plain (derive 0x4028000000000000 0 1 0 4)) 1 0 14 100 15
+      ∷ refuses (plain (derive 0x4028000000000000 0 1 8 0)) 1 0 14 100 15
+      ∷ refuses (plain (derive 0x4028000000000000 0 0 0 0)) 1 0 14 100 15
+      ∷ refuses (plain (derive 0x28000000000001 0 1 0 0)) 1 0 14 100 15
+      ∷ refuses (plain (derive 0x402bc0000000000f 0 1 0 0)) 2 0 14 100 15
+      ∷ refuses (plain (derive 0x4029800000000006 0 1 0 0)) 3 2 14 100 15
+      ∷ refuses (plain (derive 0x4029c00000000007 0 1 0 0)) 4 1 14 100 15
+      ∷ refuses (plain (derive 0x4028800000000002 0 9 2 0)) 7 0 14 100 15
+      ∷ refuses (plain (derive 0x4028000000000000 1 16 7 0)) 8 0 14 100 15
       -- execute-only
-      ∷ refuses (plain (executeOnly 0x4028000000000000 4)) 1 0 14 100
-      ∷ refuses (plain (executeOnly 0x28000000000001 0)) 1 0 14 100
-      ∷ refuses (plain (executeOnly 0x402bc0000000000f 0)) 2 0 14 100
-      ∷ refuses (plain (executeOnly 0x402ac0000000000b 0)) 3 1 14 100
-      ∷ refuses (plain (executeOnly 0x402a000000000008 0)) 4 2 14 100
-      ∷ refuses (plain (executeOnly 0x4029000000000004 0)) 7 0 14 100
+      ∷ refuses (plain (executeOnly 0x4028000000000000 4)) 1 0 14 100 15
+      ∷ refuses (plain (executeOnly 0x28000000000001 0)) 1 0 14 100 15
+      ∷ refuses (plain (executeOnly 0x402bc0000000000f 0)) 2 0 14 100 15
+      ∷ refuses (plain (executeOnly 0x402ac0000000000b 0)) 3 1 14 100 15
+      ∷ refuses (plain (executeOnly 0x402a000000000008 0)) 4 2 14 100 15
+      ∷ refuses (plain (executeOnly 0x4029000000000004 0)) 7 0 14 100 15
       -- clone
-      ∷ refuses (plain (clone 0x28000000000001)) 1 0 14 100
-      ∷ refuses (plain (clone 0x402bc0000000000f)) 2 0 14 100
-      ∷ refuses (plain (clone 0x4029400000000005)) 3 1 14 100
-      ∷ refuses (plain (clone 0x402a000000000008)) 4 2 14 100
+      ∷ refuses (plain (clone 0x28000000000001)) 1 0 14 100 15
+      ∷ refuses (plain (clone 0x402bc0000000000f)) 2 0 14 100 15
+      ∷ refuses (plain (clone 0x4029400000000005)) 3 1 14 100 15
+      ∷ refuses (plain (clone 0x402a000000000008)) 4 2 14 100 15
       -- counts at their top
-      ∷ grants (plain (clone 0x402a400000000009)) [] 0 14 100 nothing
-      ∷ refuses (plain (clone 0x402a400000000009)) 9 0 14 100
-      ∷ refuses (plain (derive 0x402a400000000009 0 7 1 0)) 9 0 14 100
-      ∷ refuses (plain (executeOnly 0x402a400000000009 0)) 9 0 14 100
+      ∷ grants (plain (clone 0x402a400000000009)) [] 0 14 100 15 nothing
+      ∷ refuses (plain (clone 0x402a400000000009)) 9 0 14 100 15
+      ∷ refuses (plain (derive 0x402a400000000009 0 7 1 0)) 9 0 14 100 15
+      ∷ refuses (plain (executeOnly 0x402a400000000009 0)) 9 0 14 100 15
       -- drop
-      ∷ refuses (plain (release 0x28000000000001)) 1 0 14 100
-      ∷ refuses (plain (release 0x402bc0000000000f)) 2 0 14 100
-      ∷ refuses (plain (release 0x4029800000000006)) 3 2 14 100
-      ∷ refuses (plain (release 0x4029400000000005)) 3 1 14 100
-      ∷ refuses (plain (release 0x4028000000000000)) 9 0 14 100
-      ∷ grants (plain (release 0x402a400000000009)) [] 0 14 100 nothing
+      ∷ refuses (plain (release 0x28000000000001)) 1 0 14 100 15
+      ∷ refuses (plain (release 0x402bc0000000000f)) 2 0 14 100 15
+      ∷ refuses (plain (release 0x4029800000000006)) 3 2 14 100 15
+      ∷ refuses (plain (release 0x4029400000000005)) 3 1 14 100 15
+      ∷ refuses (plain (release 0x4028000000000000)) 9 0 14 100 15
+      ∷ grants (plain (release 0x402a400000000009)) [] 0 14 100 15 nothing
       -- lock
-      ∷ refuses (plain (lock 0x4028000000000000 0)) 1 0 14 100
-      ∷ refuses (plain (lock 0x4028000000000000 36028797018963968)) 1 0 14 100
-      ∷ refuses (plain (lock 0x28000000000001 1)) 1 0 14 100
-      ∷ refuses (plain (lock 0x402bc0000000000f 1)) 2 0 14 100
-      ∷ refuses (plain (lock 0x4029800000000006 1)) 3 2 14 100
-      ∷ refuses (plain (lock 0x4029c00000000007 1)) 4 1 14 100
-      ∷ refuses (plain (lock 0x4028800000000002 8)) 5 0 14 100
-      ∷ refuses (plain (lock 0x4028c00000000003 1)) 7 0 14 100
-      ∷ refuses (plain (lock 0x402a400000000009 1)) 7 0 14 100
+      ∷ refuses (plain (lock 0x4028000000000000 0)) 1 0 14 100 15
+      ∷ refuses (plain (lock 0x4028000000000000 36028797018963968)) 1 0 14 100 15
+      ∷ refuses (plain (lock 0x28000000000001 1)) 1 0 14 100 15
+      ∷ refuses (plain (lock 0x402bc0000000000f 1)) 2 0 14 100 15
+      ∷ refuses (plain (lock 0x4029800000000006 1)) 3 2 14 100 15
+      ∷ refuses (plain (lock 0x4029c00000000007 1)) 4 1 14 100 15
+      ∷ refuses (plain (lock 0x4028800000000002 8)) 5 0 14 100 15
+      ∷ refuses (plain (lock 0x4028c00000000003 1)) 7 0 14 100 15
+      ∷ refuses (plain (lock 0x402a400000000009 1)) 7 0 14 100 15
       -- unlock
-      ∷ refuses (plain (unlock 0x4028400000000001 0)) 1 0 14 100
-      ∷ refuses (plain (unlock 0x4028400000000001 36028797018963968)) 1 0 14 100
-      ∷ refuses (plain (unlock 0x28400100000001 7)) 1 0 14 100
-      ∷ refuses (plain (unlock 0x402bc0000000000f 1)) 2 0 14 100
-      ∷ refuses (plain (unlock 0x4029400000000005 1)) 3 1 14 100
-      ∷ refuses (plain (unlock 0x402a000000000008 1)) 4 2 14 100
-      ∷ refuses (plain (unlock 0x4028400000000001 8)) 5 0 14 100
-      ∷ refuses (plain (unlock 0x4028000000000000 1)) 9 0 14 100
-      ∷ refuses (plain (unlock 0x402b00000000000c 1)) 9 0 14 100
+      ∷ refuses (plain (unlock 0x4028400000000001 0)) 1 0 14 100 15
+      ∷ refuses (plain (unlock 0x4028400000000001 36028797018963968)) 1 0 14 100 15
+      ∷ refuses (plain (unlock 0x28400100000001 7)) 1 0 14 100 15
+      ∷ refuses (plain (unlock 0x402bc0000000000f 1)) 2 0 14 100 15
+      ∷ refuses (plain (unlock 0x4029400000000005 1)) 3 1 14 100 15
+      ∷ refuses (plain (unlock 0x402a000000000008 1)) 4 2 14 100 15
+      ∷ refuses (plain (unlock 0x4028400000000001 8)) 5 0 14 100 15
+      ∷ refuses (plain (unlock 0x4028000000000000 1)) 9 0 14 100 15
+      ∷ refuses (plain (unlock 0x402b00000000000c 1)) 9 0 14 100 15
       -- revoke
-      ∷ refuses (plain (revoke 0x4028000000000000 4)) 1 0 14 100
-      ∷ refuses (plain (revoke 0x28000000000001 0)) 1 0 14 100
-      ∷ refuses (plain (revoke 0x402bc0000000000f 0)) 2 0 14 100
-      ∷ refuses (plain (revoke 0x4029800000000006 0)) 3 2 14 100
-      ∷ refuses (plain (revoke 0x402a000000000008 0)) 4 2 14 100
-      ∷ refuses (plain (revoke 0x402b00000000000c 0)) 6 0 14 100
+      ∷ refuses (plain (revoke 0x4028000000000000 4)) 1 0 14 100 15
+      ∷ refuses (plain (revoke 0x28000000000001 0)) 1 0 14 100 15
+      ∷ refuses (plain (revoke 0x402bc0000000000f 0)) 2 0 14 100 15
+      ∷ refuses (plain (revoke 0x4029800000000006 0)) 3 2 14 100 15
+      ∷ refuses (plain (revoke 0x402a000000000008 0)) 4 2 14 100 15
+      ∷ refuses (plain (revoke 0x402b00000000000c 0)) 6 0 14 100 15
       ∷ [];
   left = handed;
 }
@@ -241,26 +241,26 @@ handedOver = record {
 abbrev handedOn : Session
 handedOn = record {
   memory = 64;
-  state = known 1 2 14 100;
+  state = known 1 2 14 100 13;
   table = handed;
   rows =
       -- drops: a climb to a dead entry, a dead entry, one with no older parent, a climb that meets 0; under a lock and after it
-      grants (plain (release 0x402a000000000008)) [] 1 14 100 nothing
-      ∷ grants (plain (release 0x4029c00000000007)) [] 1 14 100 nothing
-      ∷ grants (plain (release 0x402a80000000000a)) [] 1 14 100 nothing
-      ∷ grants (plain (release 0x402b00000000000c)) [] 1 14 100 nothing
-      ∷ grants (plain (release 0x4028800000000002)) [] 0 14 100 nothing
-      ∷ grants (plain (lock 0x402b40000000000d 36028797018963967)) [] 0 14 100 nothing
-      ∷ grants (plain (unlock 0x4028800000000002 7)) [] 0 14 100 nothing
-      ∷ grants (plain (release 0x4028800000000002)) [] 1 14 100 nothing
-      ∷ grants (plain (release 0x402b80000000000e)) [] 1 14 100 nothing
+      grants (plain (release 0x402a000000000008)) [] 1 14 100 14 nothing
+      ∷ grants (plain (release 0x4029c00000000007)) [] 1 14 100 15 nothing
+      ∷ grants (plain (release 0x402a80000000000a)) [] 1 14 100 15 nothing
+      ∷ grants (plain (release 0x402b00000000000c)) [] 1 14 100 15 nothing
+      ∷ grants (plain (release 0x4028800000000002)) [] 0 14 100 15 nothing
+      ∷ grants (plain (lock 0x402b40000000000d 36028797018963967)) [] 0 14 100 15 nothing
+      ∷ grants (plain (unlock 0x4028800000000002 7)) [] 0 14 100 15 nothing
+      ∷ grants (plain (release 0x4028800000000002)) [] 1 14 100 15 nothing
+      ∷ grants (plain (release 0x402b80000000000e)) [] 1 14 100 15 nothing
       -- at 65,534; user and Lockable of part, rest and merged; a revoke makes Lockable, and unlocks
-      ∷ grants (plain (executeOnly 0x402a400000000009 1)) (0x490300000000000f ∷ []) 0 15 101 nothing
-      ∷ grants (plain (create 0x4028c00000000003 0 3 18446744073709551615 1 1)) (0x7300400000000002 ∷ 0x4839400000000003 ∷ []) 0 2 103 nothing
-      ∷ grants (plain (merge 0x4839400000000003 0x4029000000000004 0 2)) (0xb187000000030000 ∷ []) 0 2 104 nothing
-      ∷ grants (over (200 ∷ []) (access writing 0xb18700000003000c 0)) [] 0 2 104 (store 47 (200 ∷ []))
-      ∷ refuses (plain (lock 0xb187000000030000 1)) 7 0 2 104
-      ∷ grants (plain (revoke 0x4028400000000001 0)) (0x3269000100000000 ∷ []) 0 2 105 (store 16 (zeros 16))
+      ∷ grants (plain (executeOnly 0x402a400000000009 1)) (0x490300000000000f ∷ []) 0 15 101 14 nothing
+      ∷ grants (plain (create 0x4028c00000000003 0 3 18446744073709551615 1 1)) (0x7300400000000002 ∷ 0x4839400000000003 ∷ []) 0 2 103 13 nothing
+      ∷ grants (plain (merge 0x4839400000000003 0x4029000000000004 0 2)) (0xb187000000030000 ∷ []) 0 2 104 14 nothing
+      ∷ grants (over (200 ∷ []) (access writing 0xb18700000003000c 0)) [] 0 2 104 14 (store 47 (200 ∷ []))
+      ∷ refuses (plain (lock 0xb187000000030000 1)) 7 0 2 104 14
+      ∷ grants (plain (revoke 0x4028400000000001 0)) (0x3269000100000000 ∷ []) 0 2 105 14 (store 16 (zeros 16))
       ∷ [];
   left =
       0x200000000000000200000000000000000000000000000000017a00a00000000a
@@ -286,17 +286,17 @@ handedOn = record {
 abbrev goingRound : Session
 goingRound = record {
   memory = 8;
-  state = known 3 4 2 9;
+  state = known 3 4 2 9 1;
   table =
       0
       ∷ 0x200000000000000100002000000000000000000000000000003a00a100000007
       ∷ 0x400000000805080000000000200000008000200000000000003800a200000008
       ∷ [];
   rows =
-      refuses (plain (derive 0x4028400000000001 0 2 7 0)) 10 0 2 9
-      ∷ refuses (plain (executeOnly 0x4028400000000001 0)) 10 0 2 9
-      ∷ grants (plain (release 0x4028800000000002)) [] 1 2 9 nothing
-      ∷ grants (plain (derive 0x4028400000000001 3 5 7 0)) (0x0591c00200000000 ∷ []) 0 2 10 nothing
+      refuses (plain (derive 0x4028400000000001 0 2 7 0)) 10 0 2 9 1
+      ∷ refuses (plain (executeOnly 0x4028400000000001 0)) 10 0 2 9 1
+      ∷ grants (plain (release 0x4028800000000002)) [] 1 2 9 2 nothing
+      ∷ grants (plain (derive 0x4028400000000001 3 5 7 0)) (0x0591c00200000000 ∷ []) 0 2 10 1 nothing
       ∷ [];
   left =
       0
@@ -309,7 +309,7 @@ goingRound = record {
 abbrev lastNonces : Session
 lastNonces = record {
   memory = 16;
-  state = known 5 6 0 4294967295;
+  state = known 5 6 0 4294967295 0;
   table =
       0x200000000000000100000000000000000000000000000000003a00a000000008
       ∷ 0x200000010000000100000000000000000000000000000000003a00a100000007
@@ -317,19 +317,19 @@ lastNonces = record {
       ∷ 0
       ∷ [];
   rows =
-      refuses (plain (create 0x4028000000000000 0 4 0 7 0)) 11 0 0 4294967295
-      ∷ grants (plain (create 0x4028400000000001 0 8 0 7 0)) (0x28b4400200000000 ∷ []) 0 2 4294967296 nothing
-      ∷ refuses (plain (create 0x4028000000000000 0 8 0 7 0)) 11 0 2 4294967296
-      ∷ refuses (plain (merge 0x4028000000000000 0x28b4400200000000 0 0)) 11 0 2 4294967296
-      ∷ refuses (plain (derive 0x28b4400200000000 0 7 7 0)) 11 0 2 4294967296
-      ∷ refuses (plain (executeOnly 0x28b4400200000000 0)) 11 0 2 4294967296
-      ∷ refuses (plain (revoke 0x28b4400200000000 0)) 11 0 2 4294967296
-      ∷ grants (plain (clone 0x28b4400200000000)) [] 0 2 4294967296 nothing
-      ∷ grants (plain (lock 0x28b4400200000000 1)) [] 0 2 4294967296 nothing
-      ∷ grants (over (200 ∷ 201 ∷ 202 ∷ 203 ∷ 204 ∷ 205 ∷ 206 ∷ 207 ∷ []) (access writing 0x28b4400200000000 1)) [] 0 2 4294967296 (store 8 (200 ∷ 201 ∷ 202 ∷ 203 ∷ 204 ∷ 205 ∷ 206 ∷ 207 ∷ []))
-      ∷ grants (plain (unlock 0x28b4400200000000 1)) [] 0 2 4294967296 nothing
-      ∷ grants (plain (release 0x28b4400200000000)) [] 1 2 4294967296 nothing
-      ∷ grants (plain (reset 1 1 4294967295)) [] 0 0 4294967295 nothing
+      refuses (plain (create 0x4028000000000000 0 4 0 7 0)) 11 0 0 4294967295 0
+      ∷ grants (plain (create 0x4028400000000001 0 8 0 7 0)) (0x28b4400200000000 ∷ []) 0 2 4294967296 1 nothing
+      ∷ refuses (plain (create 0x4028000000000000 0 8 0 7 0)) 11 0 2 4294967296 1
+      ∷ refuses (plain (merge 0x4028000000000000 0x28b4400200000000 0 0)) 11 0 2 4294967296 1
+      ∷ refuses (plain (derive 0x28b4400200000000 0 7 7 0)) 11 0 2 4294967296 1
+      ∷ refuses (plain (executeOnly 0x28b4400200000000 0)) 11 0 2 4294967296 1
+      ∷ refuses (plain (revoke 0x28b4400200000000 0)) 11 0 2 4294967296 1
+      ∷ grants (plain (clone 0x28b4400200000000)) [] 0 2 4294967296 1 nothing
+      ∷ grants (plain (lock 0x28b4400200000000 1)) [] 0 2 4294967296 1 nothing
+      ∷ grants (over (200 ∷ 201 ∷ 202 ∷ 203 ∷ 204 ∷ 205 ∷ 206 ∷ 207 ∷ []) (access writing 0x28b4400200000000 1)) [] 0 2 4294967296 1 (store 8 (200 ∷ 201 ∷ 202 ∷ 203 ∷ 204 ∷ 205 ∷ 206 ∷ 207 ∷ []))
+      ∷ grants (plain (unlock 0x28b4400200000000 1)) [] 0 2 4294967296 1 nothing
+      ∷ grants (plain (release 0x28b4400200000000)) [] 1 2 4294967296 1 nothing
+      ∷ grants (plain (reset 1 1 4294967295)) [] 0 0 4294967295 3 nothing
       ∷ [];
   left =
       0x200000000000000200000000000000000000000000000000003a000000000000
@@ -339,18 +339,41 @@ lastNonces = record {
       ∷ [];
 }
 
+-- creates of the whole, under a total at its top: a freed number counts again, number 0 does not
+abbrev wholes : Session
+wholes = record {
+  memory = 16;
+  state = known 5 6 0 9 3;
+  table =
+      0x200000000000000100000000000000000000000000000000003a00a000000008
+      ∷ 0x200000010000000100000000000000000000000000000000003a00a100000007
+      ∷ 0
+      ∷ 0
+      ∷ [];
+  rows =
+      grants (plain (create 0x4028400000000001 0 8 0 7 0)) (0x1c32000200000000 ∷ []) 0 2 10 3 nothing
+      ∷ grants (plain (create 0x4028000000000000 0 8 0 7 0)) (0x32f3000300000000 ∷ []) 0 3 11 2 nothing
+      ∷ [];
+  left =
+      0
+      ∷ 0
+      ∷ 0x200000010000000100000000000000000000000000000000003a70c800000009
+      ∷ 0x200000000000000100000000000000000000000000000000003acbcc0000000a
+      ∷ [];
+}
+
 -- a full table: no create; the last nonce would bring the old tag back, and is passed over: no revoke
 abbrev noneLeft : Session
 noneLeft = record {
   memory = 8;
-  state = known 0 0 0 4294967295;
+  state = known 0 0 0 4294967295 1;
   table =
       0x200000000000000100000000000000000000000000000000003a000000000001
       ∷ 0x200000008000000080000000000000000000000000000000003a67e600000002
       ∷ [];
   rows =
-      refuses (plain (create 0 0 8 0 7 0)) 10 0 0 4294967295
-      ∷ refuses (plain (revoke 0x19f9800100000000 0)) 11 0 0 4294967295
+      refuses (plain (create 0 0 8 0 7 0)) 10 0 0 4294967295 1
+      ∷ refuses (plain (revoke 0x19f9800100000000 0)) 11 0 0 4294967295 1
       ∷ [];
   left =
       0x200000000000000100000000000000000000000000000000003a000000000001
@@ -362,41 +385,41 @@ noneLeft = record {
 abbrev imaged : Session
 imaged = record {
   memory = 20;
-  state = known 0 0 0 0;
+  state = known 0 0 0 0 0;
   table = 0 ∷ 0 ∷ [];
   rows =
-      grants (plain (reset 0 0 1)) [] 0 0 1 nothing
+      grants (plain (reset 0 0 1)) [] 0 0 1 1 nothing
       -- three bytes at 2; an end record alone
-      ∷ grants (over (58 ∷ 48 ∷ 51 ∷ 48 ∷ 48 ∷ 48 ∷ 50 ∷ 48 ∷ 48 ∷ 67 ∷ 57 ∷ 67 ∷ 65 ∷ 67 ∷ 66 ∷ 57 ∷ 68 ∷ 10 ∷ 58 ∷ 48 ∷ 48 ∷ 48 ∷ 48 ∷ 48 ∷ 48 ∷ 48 ∷ 49 ∷ 70 ∷ 70 ∷ 10 ∷ []) (load 0 0)) [] 0 0 1 (store 2 (201 ∷ 202 ∷ 203 ∷ []))
-      ∷ grants (over (58 ∷ 48 ∷ 48 ∷ 48 ∷ 48 ∷ 48 ∷ 48 ∷ 48 ∷ 49 ∷ 70 ∷ 70 ∷ 10 ∷ []) (load 0 0)) [] 0 0 1 nothing
+      ∷ grants (over (58 ∷ 48 ∷ 51 ∷ 48 ∷ 48 ∷ 48 ∷ 50 ∷ 48 ∷ 48 ∷ 67 ∷ 57 ∷ 67 ∷ 65 ∷ 67 ∷ 66 ∷ 57 ∷ 68 ∷ 10 ∷ 58 ∷ 48 ∷ 48 ∷ 48 ∷ 48 ∷ 48 ∷ 48 ∷ 48 ∷ 49 ∷ 70 ∷ 70 ∷ 10 ∷ []) (load 0 0)) [] 0 0 1 1 (store 2 (201 ∷ 202 ∷ 203 ∷ []))
+      ∷ grants (over (58 ∷ 48 ∷ 48 ∷ 48 ∷ 48 ∷ 48 ∷ 48 ∷ 48 ∷ 49 ∷ 70 ∷ 70 ∷ 10 ∷ []) (load 0 0)) [] 0 0 1 1 nothing
       -- no text; no end record; two; CR LF
-      ∷ refuses (over [] (load 0 0)) 12 0 0 1
-      ∷ refuses (over (58 ∷ 48 ∷ 49 ∷ 48 ∷ 48 ∷ 48 ∷ 50 ∷ 48 ∷ 48 ∷ 67 ∷ 57 ∷ 51 ∷ 52 ∷ 10 ∷ []) (load 0 0)) 12 0 0 1
-      ∷ refuses (over (58 ∷ 48 ∷ 48 ∷ 48 ∷ 48 ∷ 48 ∷ 48 ∷ 48 ∷ 49 ∷ 70 ∷ 70 ∷ 10 ∷ 58 ∷ 48 ∷ 48 ∷ 48 ∷ 48 ∷ 48 ∷ 48 ∷ 48 ∷ 49 ∷ 70 ∷ 70 ∷ 10 ∷ []) (load 0 0)) 12 0 0 1
-      ∷ refuses (over (58 ∷ 48 ∷ 48 ∷ 48 ∷ 48 ∷ 48 ∷ 48 ∷ 48 ∷ 49 ∷ 70 ∷ 70 ∷ 13 ∷ 10 ∷ []) (load 0 0)) 12 0 0 1
+      ∷ refuses (over [] (load 0 0)) 12 0 0 1 1
+      ∷ refuses (over (58 ∷ 48 ∷ 49 ∷ 48 ∷ 48 ∷ 48 ∷ 50 ∷ 48 ∷ 48 ∷ 67 ∷ 57 ∷ 51 ∷ 52 ∷ 10 ∷ []) (load 0 0)) 12 0 0 1 1
+      ∷ refuses (over (58 ∷ 48 ∷ 48 ∷ 48 ∷ 48 ∷ 48 ∷ 48 ∷ 48 ∷ 49 ∷ 70 ∷ 70 ∷ 10 ∷ 58 ∷ 48 ∷ 48 ∷ 48 ∷ 48 ∷ 48 ∷ 48 ∷ 48 ∷ 49 ∷ 70 ∷ 70 ∷ 10 ∷ []) (load 0 0)) 12 0 0 1 1
+      ∷ refuses (over (58 ∷ 48 ∷ 48 ∷ 48 ∷ 48 ∷ 48 ∷ 48 ∷ 48 ∷ 49 ∷ 70 ∷ 70 ∷ 13 ∷ 10 ∷ []) (load 0 0)) 12 0 0 1 1
       -- a wrong checksum, before and after a malformed record
-      ∷ refuses (over (58 ∷ 48 ∷ 49 ∷ 48 ∷ 48 ∷ 48 ∷ 50 ∷ 48 ∷ 48 ∷ 67 ∷ 57 ∷ 51 ∷ 53 ∷ 10 ∷ 58 ∷ 48 ∷ 48 ∷ 48 ∷ 48 ∷ 48 ∷ 48 ∷ 48 ∷ 49 ∷ 70 ∷ 70 ∷ 10 ∷ []) (load 0 0)) 13 0 0 1
-      ∷ refuses (over (58 ∷ 48 ∷ 49 ∷ 48 ∷ 48 ∷ 48 ∷ 50 ∷ 48 ∷ 48 ∷ 67 ∷ 57 ∷ 51 ∷ 53 ∷ 10 ∷ 10 ∷ []) (load 0 0)) 13 0 0 1
-      ∷ refuses (over (10 ∷ 58 ∷ 48 ∷ 49 ∷ 48 ∷ 48 ∷ 48 ∷ 50 ∷ 48 ∷ 48 ∷ 67 ∷ 57 ∷ 51 ∷ 53 ∷ 10 ∷ []) (load 0 0)) 12 0 0 1
+      ∷ refuses (over (58 ∷ 48 ∷ 49 ∷ 48 ∷ 48 ∷ 48 ∷ 50 ∷ 48 ∷ 48 ∷ 67 ∷ 57 ∷ 51 ∷ 53 ∷ 10 ∷ 58 ∷ 48 ∷ 48 ∷ 48 ∷ 48 ∷ 48 ∷ 48 ∷ 48 ∷ 49 ∷ 70 ∷ 70 ∷ 10 ∷ []) (load 0 0)) 13 0 0 1 1
+      ∷ refuses (over (58 ∷ 48 ∷ 49 ∷ 48 ∷ 48 ∷ 48 ∷ 50 ∷ 48 ∷ 48 ∷ 67 ∷ 57 ∷ 51 ∷ 53 ∷ 10 ∷ 10 ∷ []) (load 0 0)) 13 0 0 1 1
+      ∷ refuses (over (10 ∷ 58 ∷ 48 ∷ 49 ∷ 48 ∷ 48 ∷ 48 ∷ 50 ∷ 48 ∷ 48 ∷ 67 ∷ 57 ∷ 51 ∷ 53 ∷ 10 ∷ []) (load 0 0)) 12 0 0 1 1
       -- past the segment's end, by one byte and by a page; no byte there
-      ∷ refuses (over (58 ∷ 48 ∷ 51 ∷ 48 ∷ 48 ∷ 49 ∷ 50 ∷ 48 ∷ 48 ∷ 48 ∷ 49 ∷ 48 ∷ 50 ∷ 48 ∷ 51 ∷ 69 ∷ 53 ∷ 10 ∷ 58 ∷ 48 ∷ 48 ∷ 48 ∷ 48 ∷ 48 ∷ 48 ∷ 48 ∷ 49 ∷ 70 ∷ 70 ∷ 10 ∷ []) (load 0 0)) 8 0 0 1
-      ∷ refuses (over (58 ∷ 48 ∷ 50 ∷ 48 ∷ 48 ∷ 48 ∷ 48 ∷ 48 ∷ 52 ∷ 48 ∷ 48 ∷ 48 ∷ 49 ∷ 70 ∷ 57 ∷ 10 ∷ 58 ∷ 48 ∷ 49 ∷ 48 ∷ 48 ∷ 48 ∷ 48 ∷ 48 ∷ 48 ∷ 48 ∷ 49 ∷ 70 ∷ 69 ∷ 10 ∷ 58 ∷ 48 ∷ 48 ∷ 48 ∷ 48 ∷ 48 ∷ 48 ∷ 48 ∷ 49 ∷ 70 ∷ 70 ∷ 10 ∷ []) (load 0 0)) 8 0 0 1
-      ∷ grants (over (58 ∷ 48 ∷ 50 ∷ 48 ∷ 48 ∷ 48 ∷ 48 ∷ 48 ∷ 52 ∷ 48 ∷ 48 ∷ 48 ∷ 49 ∷ 70 ∷ 57 ∷ 10 ∷ 58 ∷ 48 ∷ 48 ∷ 48 ∷ 48 ∷ 48 ∷ 57 ∷ 48 ∷ 48 ∷ 70 ∷ 55 ∷ 10 ∷ 58 ∷ 48 ∷ 48 ∷ 48 ∷ 48 ∷ 48 ∷ 48 ∷ 48 ∷ 49 ∷ 70 ∷ 70 ∷ 10 ∷ []) (load 0 0)) [] 0 0 1 nothing
+      ∷ refuses (over (58 ∷ 48 ∷ 51 ∷ 48 ∷ 48 ∷ 49 ∷ 50 ∷ 48 ∷ 48 ∷ 48 ∷ 49 ∷ 48 ∷ 50 ∷ 48 ∷ 51 ∷ 69 ∷ 53 ∷ 10 ∷ 58 ∷ 48 ∷ 48 ∷ 48 ∷ 48 ∷ 48 ∷ 48 ∷ 48 ∷ 49 ∷ 70 ∷ 70 ∷ 10 ∷ []) (load 0 0)) 8 0 0 1 1
+      ∷ refuses (over (58 ∷ 48 ∷ 50 ∷ 48 ∷ 48 ∷ 48 ∷ 48 ∷ 48 ∷ 52 ∷ 48 ∷ 48 ∷ 48 ∷ 49 ∷ 70 ∷ 57 ∷ 10 ∷ 58 ∷ 48 ∷ 49 ∷ 48 ∷ 48 ∷ 48 ∷ 48 ∷ 48 ∷ 48 ∷ 48 ∷ 49 ∷ 70 ∷ 69 ∷ 10 ∷ 58 ∷ 48 ∷ 48 ∷ 48 ∷ 48 ∷ 48 ∷ 48 ∷ 48 ∷ 49 ∷ 70 ∷ 70 ∷ 10 ∷ []) (load 0 0)) 8 0 0 1 1
+      ∷ grants (over (58 ∷ 48 ∷ 50 ∷ 48 ∷ 48 ∷ 48 ∷ 48 ∷ 48 ∷ 52 ∷ 48 ∷ 48 ∷ 48 ∷ 49 ∷ 70 ∷ 57 ∷ 10 ∷ 58 ∷ 48 ∷ 48 ∷ 48 ∷ 48 ∷ 48 ∷ 57 ∷ 48 ∷ 48 ∷ 70 ∷ 55 ∷ 10 ∷ 58 ∷ 48 ∷ 48 ∷ 48 ∷ 48 ∷ 48 ∷ 48 ∷ 48 ∷ 49 ∷ 70 ∷ 70 ∷ 10 ∷ []) (load 0 0)) [] 0 0 1 1 nothing
       -- an offset; a bad text, and a good one, through a token that names nothing
-      ∷ refuses (over (58 ∷ 48 ∷ 51 ∷ 48 ∷ 48 ∷ 48 ∷ 50 ∷ 48 ∷ 48 ∷ 67 ∷ 57 ∷ 67 ∷ 65 ∷ 67 ∷ 66 ∷ 57 ∷ 68 ∷ 10 ∷ 58 ∷ 48 ∷ 48 ∷ 48 ∷ 48 ∷ 48 ∷ 48 ∷ 48 ∷ 49 ∷ 70 ∷ 70 ∷ 10 ∷ []) (load 1 0)) 1 0 0 1
-      ∷ refuses (over [] (load 1 0)) 1 0 0 1
-      ∷ refuses (over [] (load 1099511627776 0)) 12 0 0 1
-      ∷ refuses (over (58 ∷ 48 ∷ 51 ∷ 48 ∷ 48 ∷ 48 ∷ 50 ∷ 48 ∷ 48 ∷ 67 ∷ 57 ∷ 67 ∷ 65 ∷ 67 ∷ 66 ∷ 57 ∷ 68 ∷ 10 ∷ 58 ∷ 48 ∷ 48 ∷ 48 ∷ 48 ∷ 48 ∷ 48 ∷ 48 ∷ 49 ∷ 70 ∷ 70 ∷ 10 ∷ []) (load 1099511627776 0)) 2 0 0 1
+      ∷ refuses (over (58 ∷ 48 ∷ 51 ∷ 48 ∷ 48 ∷ 48 ∷ 50 ∷ 48 ∷ 48 ∷ 67 ∷ 57 ∷ 67 ∷ 65 ∷ 67 ∷ 66 ∷ 57 ∷ 68 ∷ 10 ∷ 58 ∷ 48 ∷ 48 ∷ 48 ∷ 48 ∷ 48 ∷ 48 ∷ 48 ∷ 49 ∷ 70 ∷ 70 ∷ 10 ∷ []) (load 1 0)) 1 0 0 1 1
+      ∷ refuses (over [] (load 1 0)) 1 0 0 1 1
+      ∷ refuses (over [] (load 1099511627776 0)) 12 0 0 1 1
+      ∷ refuses (over (58 ∷ 48 ∷ 51 ∷ 48 ∷ 48 ∷ 48 ∷ 50 ∷ 48 ∷ 48 ∷ 67 ∷ 57 ∷ 67 ∷ 65 ∷ 67 ∷ 66 ∷ 57 ∷ 68 ∷ 10 ∷ 58 ∷ 48 ∷ 48 ∷ 48 ∷ 48 ∷ 48 ∷ 48 ∷ 48 ∷ 49 ∷ 70 ∷ 70 ∷ 10 ∷ []) (load 1099511627776 0)) 2 0 0 1 1
       -- the text of 20 bytes; a buffer that lacks one; an offset
-      ∷ dumps (over (zeros 92) (dump 0 0)) 92 0 1 (text 0 20)
-      ∷ refuses (over (zeros 91) (dump 0 0)) 14 0 0 1
-      ∷ refuses (over (zeros 92) (dump 1 0)) 1 0 0 1
+      ∷ dumps (over (zeros 92) (dump 0 0)) 92 0 1 1 (text 0 20)
+      ∷ refuses (over (zeros 91) (dump 0 0)) 14 0 0 1 1
+      ∷ refuses (over (zeros 92) (dump 1 0)) 1 0 0 1 1
       -- under a lock
-      ∷ grants (plain (lock 0 7)) [] 0 0 1 nothing
-      ∷ refuses (over (58 ∷ 48 ∷ 51 ∷ 48 ∷ 48 ∷ 48 ∷ 50 ∷ 48 ∷ 48 ∷ 67 ∷ 57 ∷ 67 ∷ 65 ∷ 67 ∷ 66 ∷ 57 ∷ 68 ∷ 10 ∷ 58 ∷ 48 ∷ 48 ∷ 48 ∷ 48 ∷ 48 ∷ 48 ∷ 48 ∷ 49 ∷ 70 ∷ 70 ∷ 10 ∷ []) (load 0 8)) 5 0 0 1
-      ∷ refuses (over (zeros 92) (dump 0 0)) 5 0 0 1
-      ∷ grants (over (58 ∷ 48 ∷ 51 ∷ 48 ∷ 48 ∷ 48 ∷ 50 ∷ 48 ∷ 48 ∷ 67 ∷ 57 ∷ 67 ∷ 65 ∷ 67 ∷ 66 ∷ 57 ∷ 68 ∷ 10 ∷ 58 ∷ 48 ∷ 48 ∷ 48 ∷ 48 ∷ 48 ∷ 48 ∷ 48 ∷ 49 ∷ 70 ∷ 70 ∷ 10 ∷ []) (load 0 7)) [] 0 0 1 (store 2 (201 ∷ 202 ∷ 203 ∷ []))
-      ∷ dumps (over (zeros 93) (dump 0 7)) 92 0 1 (text 0 20)
+      ∷ grants (plain (lock 0 7)) [] 0 0 1 1 nothing
+      ∷ refuses (over (58 ∷ 48 ∷ 51 ∷ 48 ∷ 48 ∷ 48 ∷ 50 ∷ 48 ∷ 48 ∷ 67 ∷ 57 ∷ 67 ∷ 65 ∷ 67 ∷ 66 ∷ 57 ∷ 68 ∷ 10 ∷ 58 ∷ 48 ∷ 48 ∷ 48 ∷ 48 ∷ 48 ∷ 48 ∷ 48 ∷ 49 ∷ 70 ∷ 70 ∷ 10 ∷ []) (load 0 8)) 5 0 0 1 1
+      ∷ refuses (over (zeros 92) (dump 0 0)) 5 0 0 1 1
+      ∷ grants (over (58 ∷ 48 ∷ 51 ∷ 48 ∷ 48 ∷ 48 ∷ 50 ∷ 48 ∷ 48 ∷ 67 ∷ 57 ∷ 67 ∷ 65 ∷ 67 ∷ 66 ∷ 57 ∷ 68 ∷ 10 ∷ 58 ∷ 48 ∷ 48 ∷ 48 ∷ 48 ∷ 48 ∷ 48 ∷ 48 ∷ 49 ∷ 70 ∷ 70 ∷ 10 ∷ []) (load 0 7)) [] 0 0 1 1 (store 2 (201 ∷ 202 ∷ 203 ∷ []))
+      ∷ dumps (over (zeros 93) (dump 0 7)) 92 0 1 1 (text 0 20)
       ∷ [];
   left = 0x2000000000000002800000000000000001c0000000000000003e000000000000 ∷ 0 ∷ [];
 }
@@ -404,50 +427,64 @@ imaged = record {
 -- sizes and settings at their limits, over a table of zeros: 2 tells that place 1 was passed
 abbrev pub limits : List Row
 limits =
-    limit 0 64 0 0 (plain (reset 0 0 1)) 1
-    ∷ limit 1 64 0 0 (plain (reset 0 0 1)) 0
-    ∷ limit 16777216 64 0 0 (plain (reset 0 0 1)) 0
-    ∷ limit 16777217 64 0 0 (plain (reset 0 0 1)) 1
-    ∷ limit 8 32 0 0 (plain (reset 0 0 1)) 1
-    ∷ limit 8 64 0 0 (plain (reset 0 0 1)) 0
-    ∷ limit 8 65 0 0 (plain (reset 0 0 1)) 1
-    ∷ limit 8 64 0 0 (plain (reset 0 0 0)) 1
-    ∷ limit 8 64 0 0 (plain (reset 0 0 1)) 0
-    ∷ limit 8 64 0 0 (plain (reset 0 0 4294967295)) 0
-    ∷ limit 8 64 0 0 (plain (reset 0 0 4294967296)) 1
-    ∷ limit 8 64 1 1 (plain (clone 0)) 2
-    ∷ limit 8 64 2 1 (plain (clone 0)) 1
-    ∷ limit 8 64 0 0 (plain (clone 0)) 1
-    ∷ limit 8 64 0 4294967296 (plain (clone 0)) 2
-    ∷ limit 8 64 0 4294967297 (plain (clone 0)) 1
-    ∷ limit 8 64 0 1 (over (zeros 1) (access reading 0 0)) 2
-    ∷ limit 8 64 2 1 (over (zeros 1) (access writing 0 0)) 1
-    ∷ limit 8 64 2 1 (plain (create 0 0 1 0 0 0)) 1
-    ∷ limit 8 64 2 1 (plain (merge 0 0 0 0)) 1
-    ∷ limit 8 64 2 1 (plain (derive 0 0 1 0 0)) 1
-    ∷ limit 8 64 2 1 (plain (executeOnly 0 0)) 1
-    ∷ limit 8 64 2 1 (plain (release 0)) 1
-    ∷ limit 8 64 2 1 (plain (lock 0 1)) 1
-    ∷ limit 8 64 2 1 (plain (unlock 0 1)) 1
-    ∷ limit 8 64 2 1 (plain (revoke 0 0)) 1
-    ∷ limit 8 64 2 1 (over ended (load 0 0)) 1
-    ∷ limit 8 64 2 1 (over (zeros 56) (dump 0 0)) 1
-    ∷ limit 8 64 0 1 (over ended (load 0 0)) 2
-    ∷ limit 8 64 0 1 (over [] (dump 0 0)) 2
+    limit 0 64 0 0 0 (plain (reset 0 0 1)) 1
+    ∷ limit 1 64 0 0 0 (plain (reset 0 0 1)) 0
+    ∷ limit 16777216 64 0 0 0 (plain (reset 0 0 1)) 0
+    ∷ limit 16777217 64 0 0 0 (plain (reset 0 0 1)) 1
+    ∷ limit 8 32 0 0 0 (plain (reset 0 0 1)) 1
+    ∷ limit 8 64 0 0 0 (plain (reset 0 0 1)) 0
+    ∷ limit 8 65 0 0 0 (plain (reset 0 0 1)) 1
+    ∷ limit 8 64 0 0 0 (plain (reset 0 0 0)) 1
+    ∷ limit 8 64 0 0 0 (plain (reset 0 0 1)) 0
+    ∷ limit 8 64 0 0 0 (plain (reset 0 0 4294967295)) 0
+    ∷ limit 8 64 0 0 0 (plain (reset 0 0 4294967296)) 1
+    ∷ limit 8 64 1 1 0 (plain (clone 0)) 2
+    ∷ limit 8 64 2 1 0 (plain (clone 0)) 1
+    ∷ limit 8 64 0 0 0 (plain (clone 0)) 1
+    ∷ limit 8 64 0 4294967296 0 (plain (clone 0)) 2
+    ∷ limit 8 64 0 4294967297 0 (plain (clone 0)) 1
+    ∷ limit 8 64 0 1 1 (plain (clone 0)) 2
+    ∷ limit 8 64 0 1 2 (plain (clone 0)) 1
+    ∷ limit 8 64 0 1 2 (plain (reset 0 0 1)) 0
+    ∷ limit 8 64 0 1 2 (over [] (load 0 0)) 1
+    ∷ limit 8 64 0 1 2 (over (zeros 1) (access writing 0 0)) 1
+    ∷ limit 8 64 0 1 2 (plain (create 0 0 1 0 0 0)) 1
+    ∷ limit 8 64 0 1 2 (plain (merge 0 0 0 0)) 1
+    ∷ limit 8 64 0 1 2 (plain (derive 0 0 1 0 0)) 1
+    ∷ limit 8 64 0 1 2 (plain (executeOnly 0 0)) 1
+    ∷ limit 8 64 0 1 2 (plain (release 0)) 1
+    ∷ limit 8 64 0 1 2 (plain (lock 0 1)) 1
+    ∷ limit 8 64 0 1 2 (plain (unlock 0 1)) 1
+    ∷ limit 8 64 0 1 2 (plain (revoke 0 0)) 1
+    ∷ limit 8 64 0 1 2 (over (zeros 56) (dump 0 0)) 1
+    ∷ limit 8 64 0 1 0 (over (zeros 1) (access reading 0 0)) 2
+    ∷ limit 8 64 2 1 0 (over (zeros 1) (access writing 0 0)) 1
+    ∷ limit 8 64 2 1 0 (plain (create 0 0 1 0 0 0)) 1
+    ∷ limit 8 64 2 1 0 (plain (merge 0 0 0 0)) 1
+    ∷ limit 8 64 2 1 0 (plain (derive 0 0 1 0 0)) 1
+    ∷ limit 8 64 2 1 0 (plain (executeOnly 0 0)) 1
+    ∷ limit 8 64 2 1 0 (plain (release 0)) 1
+    ∷ limit 8 64 2 1 0 (plain (lock 0 1)) 1
+    ∷ limit 8 64 2 1 0 (plain (unlock 0 1)) 1
+    ∷ limit 8 64 2 1 0 (plain (revoke 0 0)) 1
+    ∷ limit 8 64 2 1 0 (over ended (load 0 0)) 1
+    ∷ limit 8 64 2 1 0 (over (zeros 56) (dump 0 0)) 1
+    ∷ limit 8 64 0 1 0 (over ended (load 0 0)) 2
+    ∷ limit 8 64 0 1 0 (over [] (dump 0 0)) 2
     ∷ []
 
 -- the same, where the table or the buffer is long: computed in `uses`
 abbrev pub limitsAbove : List Row
 limitsAbove =
-    limit 8 32768 0 0 (plain (reset 0 0 1)) 0
-    ∷ limit 8 32800 0 0 (plain (reset 0 0 1)) 1
-    ∷ limit 8 64 0 1 (over (zeros 4096) (access reading 0 0)) 2
-    ∷ limit 8 64 0 1 (over (zeros 4097) (access reading 0 0)) 1
+    limit 8 32768 0 0 0 (plain (reset 0 0 1)) 0
+    ∷ limit 8 32800 0 0 0 (plain (reset 0 0 1)) 1
+    ∷ limit 8 64 0 1 0 (over (zeros 4096) (access reading 0 0)) 2
+    ∷ limit 8 64 0 1 0 (over (zeros 4097) (access reading 0 0)) 1
     ∷ []
 
 -- computed in this crate, and in `uses`
 abbrev pub sessions : List Session
-sessions = handedOver ∷ handedOn ∷ goingRound ∷ lastNonces ∷ noneLeft ∷ imaged ∷ []
+sessions = handedOver ∷ handedOn ∷ goingRound ∷ lastNonces ∷ wholes ∷ noneLeft ∷ imaged ∷ []
 
 abbrev pub sessionsAbove : List Session
 sessionsAbove = fromReset ∷ []
@@ -458,15 +495,15 @@ root8 = 0x200000000000000100000000000000000000000000000000003a000000000000 ∷ 0
 
 abbrev pub bytesMoved : List Row
 bytesMoved =
-    moves (known 0 0 0 1) root8 (1 ∷ 2 ∷ 3 ∷ 4 ∷ 5 ∷ 6 ∷ 7 ∷ 8 ∷ [])
+    moves (known 0 0 0 1 0) root8 (1 ∷ 2 ∷ 3 ∷ 4 ∷ 5 ∷ 6 ∷ 7 ∷ 8 ∷ [])
     (over (201 ∷ 202 ∷ 203 ∷ []) (access writing 2 0) ∷ over (zeros 4) (access reading 1 0) ∷ [])
     (201 ∷ 202 ∷ 203 ∷ 2 ∷ 201 ∷ 202 ∷ 203 ∷ [])
     (1 ∷ 2 ∷ 201 ∷ 202 ∷ 203 ∷ 6 ∷ 7 ∷ 8 ∷ [])
-    ∷ moves (known 0 0 0 1) root8 (1 ∷ 2 ∷ 201 ∷ 202 ∷ 203 ∷ 6 ∷ 7 ∷ 8 ∷ [])
+    ∷ moves (known 0 0 0 1 0) root8 (1 ∷ 2 ∷ 201 ∷ 202 ∷ 203 ∷ 6 ∷ 7 ∷ 8 ∷ [])
     (over (zeros 2) (access fetching 4 0) ∷ over (9 ∷ 9 ∷ []) (access reading 7 0) ∷ [])
     (203 ∷ 6 ∷ 9 ∷ 9 ∷ [])
     (1 ∷ 2 ∷ 201 ∷ 202 ∷ 203 ∷ 6 ∷ 7 ∷ 8 ∷ [])
-    ∷ moves (known 0 0 0 1) root8 (1 ∷ 2 ∷ 3 ∷ 4 ∷ 5 ∷ 6 ∷ 7 ∷ 8 ∷ [])
+    ∷ moves (known 0 0 0 1 0) root8 (1 ∷ 2 ∷ 3 ∷ 4 ∷ 5 ∷ 6 ∷ 7 ∷ 8 ∷ [])
     (over (58 ∷ 48 ∷ 52 ∷ 48 ∷ 48 ∷ 48 ∷ 48 ∷ 48 ∷ 48 ∷ 48 ∷ 66 ∷ 48 ∷ 67 ∷ 48 ∷ 68 ∷ 48 ∷ 69 ∷ 67 ∷ 65 ∷ 10 ∷ 58 ∷ 48 ∷ 50 ∷ 48 ∷ 48 ∷ 48 ∷ 50 ∷ 48 ∷ 48 ∷ 97 ∷ 98 ∷ 99 ∷ 100 ∷ 56 ∷ 52 ∷ 10 ∷ 58 ∷ 48 ∷ 50 ∷ 48 ∷ 48 ∷ 48 ∷ 48 ∷ 48 ∷ 52 ∷ 48 ∷ 48 ∷ 48 ∷ 55 ∷ 70 ∷ 51 ∷ 10 ∷ 58 ∷ 48 ∷ 50 ∷ 48 ∷ 48 ∷ 48 ∷ 48 ∷ 48 ∷ 52 ∷ 48 ∷ 48 ∷ 48 ∷ 48 ∷ 70 ∷ 65 ∷ 10 ∷ 58 ∷ 48 ∷ 49 ∷ 48 ∷ 48 ∷ 48 ∷ 55 ∷ 48 ∷ 48 ∷ 54 ∷ 51 ∷ 57 ∷ 53 ∷ 10 ∷ 58 ∷ 48 ∷ 48 ∷ 48 ∷ 48 ∷ 48 ∷ 48 ∷ 48 ∷ 49 ∷ 70 ∷ 70 ∷ 10 ∷ []) (load 0 0) ∷ over (zeros 58) (dump 0 0) ∷ [])
     (58 ∷ 48 ∷ 52 ∷ 48 ∷ 48 ∷ 48 ∷ 48 ∷ 48 ∷ 48 ∷ 48 ∷ 66 ∷ 48 ∷ 67 ∷ 48 ∷ 68 ∷ 48 ∷ 69 ∷ 67 ∷ 65 ∷ 10 ∷ 58 ∷ 48 ∷ 50 ∷ 48 ∷ 48 ∷ 48 ∷ 50 ∷ 48 ∷ 48 ∷ 97 ∷ 98 ∷ 99 ∷ 100 ∷ 56 ∷ 52 ∷ 10 ∷ 58 ∷ 48 ∷ 50 ∷ 48 ∷ 48 ∷ 48 ∷ 48 ∷ 48 ∷ 52 ∷ 48 ∷ 48 ∷ 48 ∷ 55 ∷ 70 ∷ 51 ∷ 10 ∷ 58 ∷ 48 ∷ 50 ∷ 48 ∷ 48 ∷ 48 ∷ 48 ∷ 48 ∷ 52 ∷ 48 ∷ 48 ∷ 48 ∷ 48 ∷ 70 ∷ 65 ∷ 10 ∷ 58 ∷ 48 ∷ 49 ∷ 48 ∷ 48 ∷ 48 ∷ 55 ∷ 48 ∷ 48 ∷ 54 ∷ 51 ∷ 57 ∷ 53 ∷ 10 ∷ 58 ∷ 48 ∷ 48 ∷ 48 ∷ 48 ∷ 48 ∷ 48 ∷ 48 ∷ 49 ∷ 70 ∷ 70 ∷ 10 ∷ 58 ∷ 48 ∷ 50 ∷ 48 ∷ 48 ∷ 48 ∷ 48 ∷ 48 ∷ 52 ∷ 48 ∷ 48 ∷ 48 ∷ 48 ∷ 70 ∷ 65 ∷ 10 ∷ 58 ∷ 48 ∷ 56 ∷ 48 ∷ 48 ∷ 48 ∷ 48 ∷ 48 ∷ 48 ∷ 48 ∷ 66 ∷ 48 ∷ 67 ∷ 65 ∷ 66 ∷ 67 ∷ 68 ∷ 48 ∷ 53 ∷ 48 ∷ 54 ∷ 48 ∷ 55 ∷ 54 ∷ 51 ∷ 70 ∷ 52 ∷ 10 ∷ 58 ∷ 48 ∷ 48 ∷ 48 ∷ 48 ∷ 48 ∷ 48 ∷ 48 ∷ 49 ∷ 70 ∷ 70 ∷ 10 ∷ 0 ∷ 0 ∷ [])
     (11 ∷ 12 ∷ 171 ∷ 205 ∷ 5 ∷ 6 ∷ 7 ∷ 99 ∷ [])

@@ -64,7 +64,7 @@ firstCases =
 
 -- what stands before the reset does not matter
 abbrev any : State
-any = record { key0 = 0; key1 = 0; last = 0; next = 0 }
+any = record { key0 = 0; key1 = 0; last = 0; next = 0; total = 0 }
 
 -- the rows of 01's checklist: "The four packed tokens, the root entry and cases 3, 4, 6, 8 are proved as one table by one proposition." Of 02, paper 1:
 -- "Case 6 of the session then prints 0".

@@ -14,7 +14,7 @@ use Rattle.machine.specs.Images.{mostText, piecesOf, spares, textFits}
 use Rattle.machine.specs.Issuing.{newNumber}
 use Rattle.machine.specs.Line.{ancestor, Bad, badOf, isDead, isIll, isLocked, itself, lineOf, lockedFrom, ownerOf}
 use Rattle.machine.specs.Operations.{book, Grant, grant, namedEntry, numberOf}
-use Rattle.machine.specs.Parts.{at, leastEntries, mostEntries, mostMemory, size, spent, State}
+use Rattle.machine.specs.Parts.{at, leastEntries, mostEntries, mostFree, mostMemory, size, spent, State}
 use Rattle.machine.specs.Requests.{access, clone, create, derive, dump, executeOnly, load, lock, merge, release, Request, reset, revoke, rightOf, unlock}
 
 -- ---- the refusals
@@ -94,9 +94,9 @@ needAll r (b ∷ bs) = need r b ∷ needAll r bs
 abbrev pub sizes : ℕ → List ℕ → List Bool
 sizes m t = leb 1 m ∷ leb m mostMemory ∷ eqb (length t % 32) 0 ∷ leb leastEntries (size t) ∷ leb (size t) mostEntries ∷ []
 
--- and state, which every request but reset takes
+-- and state, which every request but reset takes; 02, paper 3: "the total may not exceed entries minus one, else refusal 1"
 abbrev pub settings : State → List ℕ → List Bool
-settings s t = ltb (s .last) (size t) ∷ leb 1 (s .next) ∷ leb (s .next) spent ∷ []
+settings s t = ltb (s .last) (size t) ∷ leb 1 (s .next) ∷ leb (s .next) spent ∷ leb (s .total) (mostFree t) ∷ []
 
 -- "task 2^55 or more"
 abbrev pub taskFits : ℕ → Bool
@@ -207,7 +207,7 @@ belowTop e = need atStanding (ltb (e .count) 65535)
 abbrev pub aboveZero : Entry → Check
 aboveZero e = need atStanding (not (eqb (e .count) 0))
 
--- "no free number for create, derive, execute-only"
+-- "no free number for create, derive, execute-only"; 02, paper 3: "refusal 10 still goes by the table"
 abbrev pub numberLeft : State → List ℕ → Check
 numberLeft s t = need atNumbers (not (eqb (newNumber s t) 0))
 

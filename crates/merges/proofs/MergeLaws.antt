@@ -17,11 +17,11 @@ use Rattle.checks.specs.Reached.{reachVerdict}
 use Rattle.checks.proofs.ReachLaws.{reach-in, reached-inside, size-in}
 use Rattle.checks.proofs.VerdictLaws.{first-passes, first-stops, parts-pass}
 use Rattle.machine.specs.Operations.{mergedOf, namedEntry, numberOf}
-use Rattle.machine.specs.Parts.{at, mostMemory, size, spent, State}
+use Rattle.machine.specs.Parts.{at, mostFree, mostMemory, size, spent, State, totalled}
 use Rattle.machine.specs.Requests.{merge}
 use Rattle.machine.specs.Steps.{pass, stop}
 use Rattle.machine.specs.Stops.{atBounds, atKind, atNonces, atStanding, checks, reachable, Refusal}
-use Rattle.machine.specs.Writes.{opened, reissue, vacated, write}
+use Rattle.machine.specs.Writes.{oneMore, opened, reissue, vacated, write}
 use Rattle.machine.proofs.Decided.{Passed}
 use Rattle.machine.proofs.TableLaws.{length-put}
 use Rattle.issuing.specs.Left.{Issues, issuedAs, leftBy}
@@ -96,7 +96,7 @@ pub record Mergeable (s : State) (t : List ℕ) (n i c : ℕ) : Type 0 where
   pub sum : at t n .length + at t i .length < 2 ^ 32
   pub rights : at t n .permissions < 8
   -- whichever entry is freed
-  pub issues : (y : ℕ) → Issues s (vacated t y) n (mergedOf (at t n) (at t i) 0) c
+  pub issues : (y k : ℕ) → Issues (totalled s k) (vacated t y) n (mergedOf (at t n) (at t i) 0) c
 
 named-pair : (m : ℕ) (s : State) (t : List ℕ) (j k u c : ℕ) → verdictOn m s t (merge j k u c) [] ≡ pass → Mergeable s t (numberOf j) (numberOf k) c
 unfolding size
@@ -111,7 +111,7 @@ named-pair m s t j k u c h =
       second = size-in t (numberOf k) (search);
       sum = omega (arith, reached-inside m t (numberOf j) (search) (search), reached-inside m t (numberOf k) (search) (search));
       rights = at-fits t (numberOf j) .permissions;
-      issues = λ y. record {
+      issues = λ y k. record {
         inside = rw length-put (omega arith);
         small = omega arith;
         laid = laidDirect refl;
@@ -125,10 +125,10 @@ mergeable m s t j k u c n i h isFirst isSecond = rw (isFirst, isSecond) (named-p
 
 -- ---- what is handed back, where the entries of numbers n and i are d and e
 
-pub merge-grants : (m : ℕ) (s : StateWords) (t : List ℕ) (j k u c n i : ℕ) (d e whole : Entry) (t₁ t₂ : List ℕ) (new : Issued) (r : Outcome)
-    → n ≡ numberOf j → i ≡ numberOf k → d ≡ at t n → e ≡ at t i → whole ≡ mergedOf d e 0 → t₁ ≡ vacated t i
-    → issuedAs new t₂ ≡ leftBy (write c (opened (stateAs s) t₁) (reissue n (dated whole))) → r ≡ givingOne (new .state) (new .token)
+pub merge-grants : (m : ℕ) (s : StateWords) (t : List ℕ) (j k u c n i : ℕ) (d e whole : Entry) (total : ℕ) (t₁ t₂ : List ℕ) (new : Issued) (r : Outcome)
+    → n ≡ numberOf j → i ≡ numberOf k → d ≡ at t n → e ≡ at t i → whole ≡ mergedOf d e 0 → total ≡ oneMore (mostFree t) i (s .total) → t₁ ≡ vacated t i
+    → issuedAs new t₂ ≡ leftBy (write c (opened (totalled (stateAs s) total) t₁) (reissue n (dated whole))) → r ≡ givingOne (new .state) (new .token)
     → handed r t₂ ≡ granting m (stateAs s) t (merge j k u c) []
 unfolding granting
-merge-grants m s t j k u c n i d e whole t₁ t₂ new r isFirst isSecond first second over freed left done =
-    rw done (ap leaving left ∙ rw (freed, over, first, second, isFirst, isSecond))
+merge-grants m s t j k u c n i d e whole total t₁ t₂ new r isFirst isSecond first second over more freed left done =
+    rw done (ap leaving left ∙ rw (freed, more, over, first, second, isFirst, isSecond))

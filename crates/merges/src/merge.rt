@@ -148,7 +148,7 @@ fn grant_merge(
     ensures { λ r. ⌜ handed r (now (table .exit)) ≡ granting memory (stateAs s) (now (table .entry)) (request.merge first second task encoding) [] ⌝ }
 {
     let whole = joined(entry_at(table, n), entry_at(table, k));
-    vacate(table, k);
+    s.total = vacate(s.total, table, k);
     let new = reissue(s, table, n, whole, encoding);
     giving(new.state, new.token)
 }

@@ -18,16 +18,16 @@ use Rattle.checks.specs.Reached.{reachVerdict}
 use Rattle.checks.proofs.ReachLaws.{reach-in}
 use Rattle.machine.specs.Issuing.{newNumber}
 use Rattle.machine.specs.Operations.{book, grantCreate, granted, issuing, namedEntry, numberOf, partOf, restOf}
-use Rattle.machine.specs.Parts.{at, moved, size, spent, State}
+use Rattle.machine.specs.Parts.{at, mostFree, moved, size, spent, State, totalled}
 use Rattle.machine.specs.Requests.{create}
 use Rattle.machine.specs.Steps.{pass, stop, Verdict}
 use Rattle.machine.specs.Stops.{atBounds, atKind, atRight, atStanding, checks, places, sizes}
-use Rattle.machine.specs.Writes.{give, opened, reissue, vacated, write, written}
+use Rattle.machine.specs.Writes.{give, oneMore, opened, reissue, vacated, write, written}
 use Rattle.machine.proofs.Choices.{by-both}
 use Rattle.machine.proofs.Decided.{AllTrue, Passed}
 use Rattle.machine.proofs.TableLaws.{length-put}
 use Rattle.issuing.specs.Left.{Issues, issuedAs, issuedTwoAs, Left, leftBy}
-use Rattle.table.specs.States.{stateAs}
+use Rattle.table.specs.States.{retotalled, stateAs}
 use Rattle.table.specs.declared.state.StateWords.{StateWords}
 use Rattle.issuing.specs.declared.writes.Issued.{Issued}
 use Rattle.issuing.specs.declared.writes.IssuedTwo.{IssuedTwo}
@@ -144,8 +144,8 @@ pub rest-in : (s : State) (t : List ℕ) (n c : ℕ) (part : ℕ → Entry) (a :
 rest-in s t n c part a gave h = omega (arith, ap (λ (y : Left). length (y .table)) gave ∙ length-put _ _ _)
 
 -- and a rest f can be issued under it, with the nonce after the part's
-pub rest-issues : (s : State) (t : List ℕ) (n : ℕ) (e : Entry) (l x p c : ℕ) → Parting s t n e l x p c → (f : Entry) → Laid (f .kind) → (l ≡ e .length → ⊥) → (last : ℕ) → Issues (moved s last (s .next + 1)) t n f c
-rest-issues s t n e l x p c h f laid some last =
+pub rest-issues : (s : State) (t : List ℕ) (n : ℕ) (e : Entry) (l x p c : ℕ) → Parting s t n e l x p c → (f : Entry) → Laid (f .kind) → (l ≡ e .length → ⊥) → (last total : ℕ) → Issues (moved s last (s .next + 1) total) t n f c
+rest-issues s t n e l x p c h f laid some last total =
     let two : s .next + 2 ≤ spent = rw (ne-eqb l (e .length) some) at (h .nonces) in
     record { inside = h .inside; small = h .small; laid = laid; encoded = h .issues .encoded; left = omega arith }
 
@@ -155,12 +155,13 @@ module _ (m : ℕ) (s : StateWords) (t : List ℕ) (k u l x p c : ℕ) (n : Name
   here : e ≡ namedEntry t k
   here = rw is at there
 
-  pub create-whole : l ≡ e .length → (a : Issued) (t₂ : List ℕ) → issuedAs a t₁ ≡ leftBy (write c (opened (stateAs s) t) (give (dated part))) → t₂ ≡ vacated t₁ (n .number)
-      → r ≡ givingOne (a .state) (a .token) → handed r t₂ ≡ granting m (stateAs s) t (create k u l x p c) []
+  pub create-whole : l ≡ e .length → (a : Issued) (i : ℕ) (t₂ : List ℕ) → issuedAs a t₁ ≡ leftBy (write c (opened (stateAs s) t) (give (dated part)))
+      → i ≡ oneMore (mostFree t₁) (n .number) (a .state .total) → t₂ ≡ vacated t₁ (n .number)
+      → r ≡ givingOne (retotalled (a .state) i) (a .token) → handed r t₂ ≡ granting m (stateAs s) t (create k u l x p c) []
   unfolding granting
-  create-whole all a t₂ gave freed done =
-      rw (done, freed)
-      (ap (λ (y : Left). record { state = y .state; table = vacated (y .table) (n .number); reply = granted (y .tokens) 0 0 }) gave
+  create-whole all a i t₂ gave more freed done =
+      rw (done, freed, more)
+      (ap (λ (y : Left). record { state = totalled (y .state) (oneMore (mostFree (y .table)) (n .number) (y .state .total)); table = vacated (y .table) (n .number); reply = granted (y .tokens) 0 0 }) gave
       ∙ rw (cut, there, is, eq-eqb l (namedEntry t k .length) (rw here at all)))
 
   pub create-rest : (l ≡ e .length → ⊥) → (rest : Entry) (b : IssuedTwo) → rest ≡ restOf e l 0

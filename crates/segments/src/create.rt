@@ -118,8 +118,9 @@ fn grant_create(
     let part = issued_direct(e.base, long, user, permissions as u8, e.lockable);
     if long == e.length {
         let given = give(s, table, new, part, encoding);
-        vacate(table, n);
-        giving(given.state, given.token)
+        let mut words = given.state;
+        words.total = vacate(words.total, table, n);
+        giving(words, given.token)
     } else {
         let base = e.base + long;
         let left = e.length - long;

@@ -82,6 +82,7 @@ fn session(table: &mut [u8], memory: &mut [u8]) {
             key1: 0,
             last: 0,
             next: 0,
+            total: 0,
         },
     };
     let start = blank.reset(table, memory, 0, 0, 1);

@@ -1,6 +1,6 @@
 // Paper 01's traps, a drop's climb and a lock under a drop, each over 64 bytes and 4 entries with
 // key 0 and first nonce 1. Prints a line for each request: what it tries, the refusal (0 granted),
-// and drop's number.
+// and drop's number; and during the climb the total of free numbers.
 use libc::STDOUT_FILENO;
 use operations::state::State;
 use rulings::reply::Outcome;
@@ -48,6 +48,14 @@ fn shown(what: &[u8], r: Outcome) -> State {
     after(r)
 }
 
+// Prints the total of free numbers, and hands the state on.
+fn polled(s: State) -> State {
+    io::write_all(STDOUT_FILENO, b"free numbers ");
+    io::print_decimal(STDOUT_FILENO, s.free_total());
+    io::write_all(STDOUT_FILENO, b"\n");
+    s
+}
+
 fn read_one(s: State, table: &[u8], memory: &[u8], token: u64, task: u64) -> Outcome {
     let mut buffer = [0u8; 1];
     s.read(table, memory, &mut buffer, token, task)
@@ -60,6 +68,7 @@ fn started(table: &mut [u8], memory: &[u8]) -> State {
             key1: 0,
             last: 0,
             next: 0,
+            total: 0,
         },
     };
     let r = blank.reset(table, memory, 0, 0, 1);
@@ -123,14 +132,16 @@ fn climbed(table: &mut [u8], memory: &[u8]) {
     let s = started(table, memory);
     let a = child(s, table, memory, 0);
     let b = grandchild(after(a), table, memory, first_token(a));
+    let s = polled(after(b));
     let s = shown(
         b"drop the child at count 2",
-        after(b).drop(table, memory, first_token(a)),
+        s.drop(table, memory, first_token(a)),
     );
     let s = shown(
         b"drop the grandchild",
         s.drop(table, memory, first_token(b)),
     );
+    let s = polled(s);
     let s = shown(
         b"read through the child",
         read_one(s, table, memory, first_token(a), 0),

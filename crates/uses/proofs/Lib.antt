@@ -1,3 +1,4 @@
 pub mod Images
 pub mod Recorded
+pub mod Totals
 pub mod Uses

@@ -10,7 +10,7 @@ use Rattle.uses.specs.Uses.{before, reset1}
 
 -- before reset, with other bytes than `before` has
 unfoldable pub numbered : Machine
-numbered = record { state = record { key0 = 0; key1 = 0; last = 0; next = 0 }; table = replicate 64 0; memory = 1 ∷ 2 ∷ 3 ∷ 4 ∷ 5 ∷ 6 ∷ 7 ∷ 8 ∷ [] }
+numbered = record { state = record { key0 = 0; key1 = 0; last = 0; next = 0; total = 0 }; table = replicate 64 0; memory = 1 ∷ 2 ∷ 3 ∷ 4 ∷ 5 ∷ 6 ∷ 7 ∷ 8 ∷ [] }
 
 -- after it: the root over 8 bytes, 1 to 8, and the root over 8 bytes, each 9
 abbrev pub from : Machine

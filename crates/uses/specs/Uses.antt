@@ -45,7 +45,7 @@ pub record Premises (σ : Machine) (f : First) (qs : List Call) (r : Call) (a : 
 
 -- before reset
 unfoldable pub before : Machine
-before = record { state = record { key0 = 0; key1 = 0; last = 0; next = 0 }; table = replicate 64 0; memory = replicate 8 9 }
+before = record { state = record { key0 = 0; key1 = 0; last = 0; next = 0; total = 0 }; table = replicate 64 0; memory = replicate 8 9 }
 
 -- bytes 2 to 4 of the root for reading; the root locked for 7
 abbrev pub derives : Call
@@ -88,7 +88,7 @@ changed σ x v = record { state = σ .state; table = σ .table; memory = set (σ
 
 -- before reset, with one byte of memory
 unfoldable pub single : Machine
-single = record { state = record { key0 = 0; key1 = 0; last = 0; next = 0 }; table = replicate 64 0; memory = 9 ∷ [] }
+single = record { state = record { key0 = 0; key1 = 0; last = 0; next = 0; total = 0 }; table = replicate 64 0; memory = 9 ∷ [] }
 
 -- all of the root, of so many bytes, for reading
 abbrev pub passes : (length : ℕ) → Call

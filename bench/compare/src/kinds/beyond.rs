@@ -36,7 +36,7 @@ fn table(player: &mut Player, entries: usize) -> World {
         let entry = entry.with(entry::TAG, tag).with(entry::PERMISSIONS, permissions);
         entry.with(entry::NONCE, number as u64).store(&mut world.table, number);
     }
-    world.state = worlds::handed(worlds::key(player), 0, entries as u64);
+    world.state = worlds::handed(player, &world.table, 0, entries as u64);
     world
 }
 

@@ -46,7 +46,7 @@ fn row(player: &mut Player, entries: usize) -> World {
         let entry = entry.with(entry::TAG, player.dice.below(1 << 16));
         entry.with(entry::NONCE, number as u64).store(&mut world.table, number);
     }
-    world.state = worlds::handed(worlds::key(player), 0, entries as u64);
+    world.state = worlds::handed(player, &world.table, 0, entries as u64);
     world
 }
 

@@ -24,6 +24,7 @@ mod sizes;
 mod sums;
 mod tables;
 mod tasks;
+mod totals;
 mod whole;
 
 use crate::dice::Dice;
@@ -57,6 +58,7 @@ pub const ALL: &[Kind] = &[
     kind("counts", 100, counts::play, "counts at 0, 1, 2, 65,534 and 65,535"),
     kind("nonces", 60, nonces::play, "the last nonces, and those outside the limits"),
     kind("tasks", 30, tasks::play, "tasks around 2^55, as holder and as asker"),
+    kind("totals", 120, totals::play, "free totals at their ends, wrong ones, and those above"),
     kind("whole", 60, whole::play, "create of a whole segment, of the root's, and what is after"),
     kind("sums", 60, sums::play, "lengths and offsets whose sums lie at or beyond a limit"),
     kind("encodings", 60, encodings::play, "each token in all encodings, one bit off, with offset"),

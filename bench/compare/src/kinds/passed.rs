@@ -1,6 +1,6 @@
 //! Revokes that pass over nonces whose tag is the old one. Keys and nonces are found by search.
 
-use bridge::Operation;
+use bridge::{Operation, State};
 use session::entry::{self, Entry};
 use session::World;
 
@@ -55,7 +55,7 @@ fn twice(player: &mut Player, nonce: u64) {
     let mut world = World::zeros(4 * entry::SIZE, MEMORY as usize);
     player.dice.fill(&mut world.memory);
     old.store(&mut world.table, number);
-    world.state = worlds::handed(key, 0, nonce);
+    world.state = State { key, ..worlds::handed(player, &world.table, 0, nonce) };
     player.begin(world);
     player.simple(Operation::Revoke, old.token(number, 2));
 }

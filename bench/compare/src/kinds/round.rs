@@ -17,7 +17,7 @@ pub fn play(player: &mut Player) {
     wild::play(player, 20);
 }
 
-/// The last number anywhere, and rubbish in the free entries: type 0 is free whatever they hold.
+/// The last number anywhere, any total, and rubbish in the free entries: type 0 is free whatever they hold.
 fn hand_over(player: &mut Player) {
     let entries = player.entries();
     let mut world = player.world();
@@ -28,6 +28,7 @@ fn hand_over(player: &mut Player) {
         part[0] &= 0x1F;
     }
     world.state.last_number = player.dice.below(entries as u64 + 1);
+    world.state.total = worlds::total(player, &world.table);
     player.begin(world);
 }
 

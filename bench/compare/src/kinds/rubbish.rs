@@ -27,7 +27,8 @@ fn state(player: &mut Player, entries: u64) -> State {
     let key = worlds::key(player);
     let last_number = player.dice.one_of(&[0, 1, entries - 1, entries, u64::MAX]);
     let next_nonce = player.dice.one_of(&[0, 1, 1, 9, 9, 1 << 32, (1 << 32) + 1, u64::MAX]);
-    worlds::handed(key, last_number, next_nonce)
+    let total = player.dice.one_of(&[0, 0, 1, entries - 1, entries - 1, entries, u64::MAX]);
+    State { key, last_number, next_nonce, total }
 }
 
 fn words(player: &mut Player) {

@@ -1,7 +1,7 @@
 //! Sizes one inside and one outside each limit: table, memory, buffer, and the state's. The upper
 //! limit of memory is that of the kind `large`.
 
-use bridge::{Operation, Words};
+use bridge::{Operation, State, Words};
 use session::entry::{self, Entry};
 use session::World;
 
@@ -35,12 +35,13 @@ pub fn play(player: &mut Player) {
 /// A sound world, with each word of the state at and beside its limits.
 fn settings(player: &mut Player) {
     let entries = 4;
-    let lasts = [entries - 1, entries].map(|last| [last, 1]);
-    let nonces = [0, 1, SPENT, SPENT + 1].map(|nonce| [0, nonce]);
-    for [last_number, next_nonce] in lasts.into_iter().chain(nonces) {
+    let lasts = [entries - 1, entries].map(|last| [last, 1, 0]);
+    let nonces = [0, 1, SPENT, SPENT + 1].map(|nonce| [0, nonce, 0]);
+    let totals = [entries - 1, entries].map(|total| [0, 1, total]);
+    for [last_number, next_nonce, total] in lasts.into_iter().chain(nonces).chain(totals) {
         let mut world = World::zeros(entry::SIZE * entries as usize, 8);
         Entry::direct(0, 8).store(&mut world.table, 0);
-        world.state = worlds::handed(worlds::key(player), last_number, next_nonce);
+        world.state = State { key: worlds::key(player), last_number, next_nonce, total };
         player.begin(world);
         player.read(0, 1, 0);
     }
@@ -63,6 +64,7 @@ fn hand_over(player: &mut Player, table: usize, memory: usize) {
     world.state.last_number = player.dice.one_of(&[0, 0, below, entries, u64::MAX]);
     let nonces = [0, 1, 1, 1, (1 << 32) - 1, 1 << 32, (1 << 32) + 1];
     world.state.next_nonce = player.dice.one_of(&nonces);
+    world.state.total = player.dice.one_of(&[0, 0, below, below, entries]);
     player.begin(world);
 }
 

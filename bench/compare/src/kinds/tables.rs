@@ -26,7 +26,7 @@ fn table(player: &mut Player, entries: usize, memory: usize) -> World {
     }
     let last_number = player.dice.below(entries as u64);
     let next_nonce = player.dice.one_of(&[1, 5, 20, 20, (1 << 32) - 1, 1 << 32]);
-    world.state = worlds::handed(worlds::key(player), last_number, next_nonce);
+    world.state = worlds::handed(player, &world.table, last_number, next_nonce);
     world
 }
 

@@ -42,11 +42,12 @@ impl Shrinker<'_> {
     }
 
     /// Leaves out a request that gave tokens, or a reset: those that went through them go through what
-    /// was given last before each of them.
+    /// was given last before each of them. If that is not enough, so do those that went through theirs.
     pub fn leave_out_givers(&mut self) {
         for at in (1..self.draft.parts.len()).rev() {
             if self.draft.parts.get(at).is_some_and(gives) {
-                self.take(chained_without(&self.draft, at));
+                let _ = self.take(chained_without(&self.draft, at, false))
+                    || self.take(chained_without(&self.draft, at, true));
             }
         }
     }
@@ -73,19 +74,22 @@ fn gives(part: &Part) -> bool {
     part.is_reset() || Operation::of(part.request.operation).is_some_and(Operation::issues)
 }
 
-/// A draft without a giver; behind it each token of its is the first one that was given last.
-fn chained_without(draft: &Draft, at: usize) -> Draft {
+/// A draft without a giver; behind it each token of its is the first one that was given last. With
+/// `all`, so is each token of those behind it whose own token was its.
+fn chained_without(draft: &Draft, at: usize, all: bool) -> Draft {
     let mut draft = draft.clone();
     let gone = draft.parts.remove(at);
+    let mut its_names = vec![gone.name];
     let mut last = draft.parts[..at].iter().rfind(|part| gives(part)).map(|part| part.name);
     for part in &mut draft.parts[at..] {
         let its = match part.token {
-            Source::Given { part: giver, .. } => giver == gone.name,
+            Source::Given { part: giver, .. } => its_names.contains(&giver),
             Source::Word => part.request.token == 0 && gone.is_reset(),
         };
         if let Some(giver) = last.filter(|_| its) {
             let (encoding, offset) = (0, 0);
             part.token = Source::Given { part: giver, second: false, encoding, offset, flip: 0 };
+            its_names.extend(Some(part.name).filter(|_| all));
         }
         last = if gives(part) { Some(part.name) } else { last };
     }

@@ -8,6 +8,7 @@ use session::World;
 use super::shrinker::Shrinker;
 use super::simpler::{lower, smaller};
 use crate::draft::{Draft, Part, Source};
+use crate::free;
 
 /// Of more entries in use the fields are left as they are.
 const MANY: usize = 24;
@@ -42,8 +43,13 @@ impl Shrinker<'_> {
         let length = self.draft.world.table.len();
         for length in smaller(length, SIZE) {
             let mut draft = self.draft.clone();
+            let top = free::top(&draft.world.table);
             draft.world.table.truncate(length);
-            if self.take(draft) {
+            // The same total, or one as far below the top.
+            let total = draft.world.state.total;
+            let mut lowered = draft.clone();
+            lowered.world.state.total = total.saturating_sub(top - free::top(&draft.world.table));
+            if self.take(draft) || self.take(lowered) {
                 return;
             }
         }

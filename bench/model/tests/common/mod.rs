@@ -27,7 +27,8 @@ impl Rig {
     }
 
     /// Serves one request, and sees to it that a refusal changes nothing and
-    /// carries neither token nor number, and that only a dump tells a length.
+    /// carries neither token nor number, that only a dump tells a length, and
+    /// that the total is corrected by what the table shows.
     pub fn ask_with(&mut self, request: Request, buffer: &mut [u8]) -> Answer {
         let before = (self.clone(), buffer.to_vec());
         let answer = serve(request, &mut self.state, &mut self.table, &mut self.memory, buffer);
@@ -35,6 +36,8 @@ impl Rig {
         if answer.refusal != 0 {
             assert_eq!(before, (self.clone(), buffer.to_vec()));
             assert_eq!((answer.first, answer.second, answer.dropped), (0, 0, 0));
+        } else if request.operation != RESET {
+            assert_eq!(self.state.total, before.0.corrected(self));
         }
         assert_eq!(answer.place != 0, matches!(answer.refusal, 3 | 4));
         let dumped = request.operation == DUMP && answer.refusal == 0;
@@ -143,6 +146,26 @@ impl Rig {
             let byte = &mut self.table[32 * number + at / 8];
             *byte = *byte & !(0x80 >> (at % 8)) | bit << (7 - at % 8);
         }
+    }
+
+    pub fn entries(&self) -> usize {
+        self.table.len() / 32
+    }
+
+    /// The free numbers without number 0, by a pass through the table.
+    pub fn free_numbers(&self) -> u64 {
+        (1..self.entries()).filter(|&number| self.kind(number) == 0).count() as u64
+    }
+
+    /// The total that a granted request makes of this one's, if it leaves that
+    /// table: a number given is given before one is freed.
+    fn corrected(&self, left: &Rig) -> u64 {
+        let changed = |from: &Rig, to: &Rig| {
+            let free = |number| from.kind(number) != 0 && to.kind(number) == 0;
+            (1..from.entries()).filter(|&number| free(number)).count() as u64
+        };
+        let (given, freed) = (changed(left, self), changed(self, left));
+        (self.state.total.saturating_sub(given) + freed).min(self.entries() as u64 - 1)
     }
 
     pub fn kind(&self, number: usize) -> u64 {

@@ -19,15 +19,15 @@ nb serve
 
 Answers each line on the standard input by one line on the standard output, until the input ends:
 
-    northbridge 2                             northbridge 2
-    world TABLE MEMORY KEY0 KEY1 LAST NEXT    ok
-    table AT BYTES                            ok
-    memory AT BYTES                           ok
-    serve WORD0 .. WORD7 BUFFER               answer REFUSAL PLACE FIRST SECOND DROPPED LENGTH
-                                                     KEY0 KEY1 LAST NEXT BUFFER
-    show-table AT LENGTH                      bytes BYTES
-    show-memory AT LENGTH                     bytes BYTES
-    anything else                             error WHAT WAS EXPECTED
+    northbridge 3                                   northbridge 3
+    world TABLE MEMORY KEY0 KEY1 LAST NEXT TOTAL    ok
+    table AT BYTES                                  ok
+    memory AT BYTES                                 ok
+    serve WORD0 .. WORD7 BUFFER                     answer REFUSAL PLACE FIRST SECOND DROPPED LENGTH
+                                                           KEY0 KEY1 LAST NEXT TOTAL BUFFER
+    show-table AT LENGTH                            bytes BYTES
+    show-memory AT LENGTH                           bytes BYTES
+    anything else                                   error WHAT WAS EXPECTED
 
 Numbers are hexadecimal without a prefix, bytes two digits each, and - stands for no bytes. 'world'
 gives a table and a memory of so many zero bytes, and a state; 'table' and 'memory' put bytes into

@@ -135,20 +135,33 @@ impl View<'_> {
         let counts: Vec<String> = counts.map(|(count, kind)| format!("{count} {kind}")).collect();
         let next = self.next_number().map_or("none".to_string(), |next| format!("#{next}"));
         let (last, nonce) = (number_text(state.last_number), nonce_text(state.next_nonce));
+        let total = self.total_text();
         [
             ("memory", format!("{} bytes", self.world.memory.len())),
             ("table", format!("{} entries: {}", self.judged.len(), counts.join(", "))),
-            ("state", format!("last number #{last} (next {next}), next nonce {nonce}")),
+            ("state", format!("last number #{last} (next {next}), next nonce {nonce}, {total}")),
         ]
+    }
+
+    /// The kept total, and what the table says where that is another.
+    fn total_text(&self) -> String {
+        let (kept, counted) = (self.world.state.total, self.free_numbers().len() as u64);
+        let wrong = format!(" (the table has {counted})");
+        let wrong = if kept == counted { "" } else { &wrong };
+        format!("free total {}{wrong}", number_text(kept))
+    }
+
+    /// The free numbers that can be given: all but 0.
+    fn free_numbers(&self) -> Vec<usize> {
+        self.all(None).into_iter().filter(|number| *number != 0).collect()
     }
 
     /// "the first free one after the last given, going round from the table's end to 1"
     fn next_number(&self) -> Option<usize> {
         let last = usize::try_from(self.world.state.last_number).unwrap_or(usize::MAX);
-        let free = self.all(None);
-        let given = free.iter().filter(|number| **number != 0);
-        let behind = given.clone().find(|number| **number > last);
-        behind.or(given.min()).copied()
+        let free = self.free_numbers();
+        let behind = free.iter().find(|number| **number > last);
+        behind.or(free.first()).copied()
     }
 
     fn reach(&self, number: usize) -> Range<u64> {

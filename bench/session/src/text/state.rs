@@ -16,9 +16,10 @@ const KEY: Part =
     Part { word: "key", place: 0, expected: &["the first key word", "the second key word"] };
 const LAST: Part = Part { word: "last", place: 2, expected: &["the last number given"] };
 const NONCE: Part = Part { word: "nonce", place: 3, expected: &["the next nonce"] };
+const TOTAL: Part = Part { word: "total", place: 4, expected: &["the total of free numbers"] };
 
 /// Every part, in the order in which they are written.
-pub const STATE: &[Part] = &[KEY, LAST, NONCE];
+pub const STATE: &[Part] = &[KEY, LAST, NONCE, TOTAL];
 
 /// The parts of a state that are stated.
 #[derive(Clone, Copy, Debug, Default, PartialEq, Eq)]

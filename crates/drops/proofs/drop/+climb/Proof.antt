@@ -1,9 +1,12 @@
 -- `drops::drop::climb` meets its contract: one law for each way out. The calls that are left fall at each call.
 -- Assumes nothing.
+use mathlib.Core.Path.{refl}
 use Prim.Native.Nat.{ℕ, _+_, _*_, _≤_, _<_}
 use native.Mathlib.Omega.{arith}
 use lib.ListN.{length}
+use lib.Dec.{eqb}
 use borrow.Author.Needs.{needs}
+use borrow.Author.Tests.{eqb-false}
 use borrow.Fn.Kinds.{In}
 use borrow.Fn.PlainCycle.{Measures, is, falls, and}
 use Rattle.table.proofs.entries.entry_at.Reads as entry-at-reads
@@ -11,9 +14,10 @@ use Rattle.table.proofs.entries.words_at.Reads as words-at-reads
 use Rattle.table.proofs.line.linked.Reads as linked-reads
 use Rattle.table.proofs.line.parent_number.Reads as parent-number-reads
 use Rattle.issuing.proofs.writes.recount.Reads as recount-reads
-use Rattle.issuing.proofs.writes.vacate.Reads as vacate-reads
-use Rattle.drops.proofs.DropLaws.{climb-ended, climb-freed, climb-in, climb-less, climb-next, climb-none, climb-up}
+use Rattle.issuing.proofs.writes.empty.Reads as empty-reads
+use Rattle.drops.proofs.DropLaws.{climb-at-less, climb-at-none, climb-gone, climb-next, climb-there, climb-up, count-most, count-one, neither}
 use Rattle.drops.proofs.drop.climb.Reads as climb
+use Rattle.drops.proofs.drop.counted.Reads as counted
 use Rattle.drops.proofs.drop.climb.Kinds as climb-kinds
 use Rattle.drops.proofs.drop.+climb.Lts-climb as climb-lts
 use Rattle.drops.proofs.drop.+climb.{statement}
@@ -38,10 +42,12 @@ asked t = (
   recount-reads.Learnt,
   linked-reads.Asked,
   linked-reads.Learnt,
-  vacate-reads.Asked,
-  vacate-reads.Learnt,
+  empty-reads.Asked,
+  empty-reads.Learnt,
   parent-number-reads.Asked,
   parent-number-reads.Learnt,
+  counted.Pre,
+  counted.Post,
   climb-below t,
   climb.Post,
 )
@@ -53,24 +59,110 @@ pub +climb-spec : {M : Type 1} → statement M
     climb.Post
     (λ c κs. search needs)
     (λ c. search needs)
-    (λ c. climb-ended (search (needs, climb-none)))
+    (λ c. search needs)
+    (λ c. let r = c .before .before in climb-at-none _ _ _ (r .entry-at .result) (omega arith) (r .entry-at .ensures) (c .if1 .taken))
     (λ c κs. search needs)
     (λ c. search needs)
-    (λ c κs. search needs)
-    (λ c. search needs)
-    (λ c. climb-ended (search (needs, climb-less)))
-    (λ c κs. search needs)
-    (λ c κs. search needs)
     (λ c κs. search needs)
     (λ c.
-    let p = c .before in
-    let i : 32 * p .parent-number .result + 32 ≤ length (p .before .before .before .before .vacate .last .0) = search (needs, climb-in) in
-    omega arith)
+    let w = c .before .before .before .before in
+    let x = w .before .before .before in
+    let y = x .before .before .before in
+    let a = y .before .before .before .before .before in
+    omega (arith, a .pre))
     (λ c. search needs)
-    (λ c κs. (search needs, search (needs, climb-in)))
+    (λ c.
+    let g = c .before .before in
+    let w = g .before .before in
+    let x = w .before .before .before in
+    let y = x .before .before .before in
+    let r = y .before .before in
+    climb-at-less _ _ _ (r .entry-at .result) _ _ (omega arith) (r .entry-at .ensures) (y .if1 .left) (x .if2 .taken) (w .words-at .ensures) (g .recount .ensures))
+    (λ c κs. search needs)
+    (λ c κs. search needs)
+    (λ c κs. search needs)
     (λ c. search needs)
-    (λ c. search (needs, climb-next))
     (λ c. search needs)
-    (λ c. search (needs, climb-up))
+    (λ c.
+    let z = c .before .before .before in
+    let e = z .before .before in
+    let l = e .before .before in
+    let x = l .before .before in
+    let y = x .before .before .before in
+    let a = y .before .before .before .before .before in
+    omega (arith, a .pre))
+    (λ c κs. omega arith)
+    (λ c.
+    let p = c .before .before in
+    let z = p .before .before in
+    let e = z .before .before in
+    let l = e .before .before in
+    let x = l .before .before in
+    let y = x .before .before .before in
+    let r = y .before .before in
+    let a = r .before .before .before in
+    let i = climb-there _ _ (r .entry-at .result) (l .linked .result) _ (r .entry-at .ensures) (l .linked .ensures) (e .empty .ensures) _ (p .parent-number .ensures) (p .before .if3 .taken) in
+    omega (arith, i, c .counted .ensures, count-most (a .args .n)))
+    (λ c.
+    let p = c .before .before in
+    let z = p .before .before in
+    let e = z .before .before in
+    let l = e .before .before in
+    let x = l .before .before in
+    let y = x .before .before .before in
+    let a = y .before .before .before .before .before in
+    omega (arith, eqb-false (a .args .calls) 0 (neither (eqb (a .args .calls) 0) (eqb (a .args .n) 0) (c .before .if4 .left) .0)))
+    (λ c κs.
+    let f = c .before in
+    let p = f .before in
+    let z = p .before .before in
+    let e = z .before .before in
+    let l = e .before .before in
+    let x = l .before .before in
+    let y = x .before .before .before in
+    let r = y .before .before in
+    let a = r .before .before .before in
+    let some = eqb-false (a .args .calls) 0 (neither (eqb (a .args .calls) 0) (eqb (a .args .n) 0) (f .if4 .left) .0) in
+    (omega (arith, some, a .pre), (climb-there _ _ (r .entry-at .result) (l .linked .result) _ (r .entry-at .ensures) (l .linked .ensures) (e .empty .ensures) _ (p .parent-number .ensures) (p .before .if3 .taken), omega (arith, a .pre))))
+    (λ c.
+    let z = c .before in
+    let e = z .before .before in
+    let l = e .before .before in
+    let x = l .before .before in
+    let y = x .before .before .before in
+    let a = y .before .before .before .before .before in
+    omega (arith, a .pre))
+    (λ c κs. omega arith)
     (λ c. search needs)
-    (λ c. climb-ended (search (needs, climb-freed)))
+    (λ c.
+    let p = c .before .before in
+    let z = p .before .before in
+    let e = z .before .before in
+    let l = e .before .before in
+    let x = l .before .before in
+    let y = x .before .before .before in
+    let r = y .before .before in
+    climb-next _ _ (r .entry-at .result) (l .linked .result) _ (r .entry-at .ensures) (y .if1 .left) (x .if2 .left) (l .linked .ensures) (e .empty .ensures) _ _ (omega arith) (c .counted .ensures) _ (p .parent-number .ensures) (p .before .if3 .taken) _ refl)
+    (λ c. search needs)
+    (λ c.
+    let q = c .before .before in
+    let f = q .before .before in
+    let p = f .before in
+    let z = p .before .before in
+    let e = z .before .before in
+    let l = e .before .before in
+    let x = l .before .before in
+    let y = x .before .before .before in
+    let r = y .before .before in
+    let a = r .before .before .before in
+    let n = neither (eqb (a .args .calls) 0) (eqb (a .args .n) 0) (f .if4 .left) in
+    climb-up _ _ (r .entry-at .result) (l .linked .result) _ (r .entry-at .ensures) (y .if1 .left) (x .if2 .left) (l .linked .ensures) (e .empty .ensures) _ _ (omega arith) (omega (arith, count-one (a .args .n) (n .1), eqb-false (a .args .calls) 0 (n .0), a .pre)) _ (p .parent-number .ensures) (p .before .if3 .taken) _ _ (q .climb .ensures))
+    (λ c. search needs)
+    (λ c.
+    let z = c .before .before in
+    let e = z .before .before in
+    let l = e .before .before in
+    let x = l .before .before in
+    let y = x .before .before .before in
+    let r = y .before .before in
+    climb-gone _ _ (r .entry-at .result) (l .linked .result) _ (r .entry-at .ensures) (y .if1 .left) (x .if2 .left) (l .linked .ensures) (e .empty .ensures) _ _ (omega arith) (c .counted2 .ensures) (c .before .if3 .left))

@@ -24,10 +24,10 @@ grant-drop-spec =
     let u = c .before .before .before .before in
     let e = u .before .before .before .before in
     let i = e .before .before .before in
-    drop-one _ _ _ _ (i .args .named) (e .entry-at .result) _ (i .pre .0) (e .entry-at .ensures) (i .pre .1 .1) _ _ (u .fall .ensures) (u .before .before .if1 .left) (c .before .if2 .taken) (c .plain2 .ensures))
+    drop-one _ _ _ _ (i .args .named) (e .entry-at .result) _ (i .pre .0) (e .entry-at .ensures) (i .pre .1 .1) _ _ _ (u .fall .ensures) (u .before .before .if1 .left) (c .before .if2 .taken) (c .plain2 .ensures))
     (λ c. search needs)
     (λ c.
     let u = c .before .before .before .before in
     let e = u .before .before .before .before in
     let i = e .before .before .before in
-    drop-more _ _ _ _ (i .args .named) (e .entry-at .result) _ (i .pre .0) (e .entry-at .ensures) (i .pre .1 .1) _ _ (u .fall .ensures) (u .before .before .if1 .left) (c .before .if2 .left) (c .plain3 .ensures)))
+    drop-more _ _ _ _ (i .args .named) (e .entry-at .result) _ (i .pre .0) (e .entry-at .ensures) (i .pre .1 .1) _ _ _ (u .fall .ensures) (u .before .before .if1 .left) (c .before .if2 .left) (c .plain3 .ensures)))

@@ -12,9 +12,10 @@ give-spec =
     (λ c κs. search needs)
     (λ c κs. search needs)
     (λ c. search needs)
+    (λ c κs. search needs)
     (λ c. search needs)
     (λ c.
-    let i = c .before .before .before in
+    let i = c .before .before .before .before in
     let t = i .before .before in
     let a = t .before .before .before in
-    rw (i .enter .ensures .0, i .enter .ensures .1, t .tag-under .ensures, a .pre .1)))
+    rw (c .one-less .ensures, i .enter .ensures .0, i .enter .ensures .1, t .tag-under .ensures, a .pre .1)))

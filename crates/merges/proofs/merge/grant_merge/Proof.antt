@@ -25,7 +25,7 @@ grant-merge-spec =
     let w = v .before .before in
     let e = w .before in
     let d = e .before .before in
-    rw (v .vacate .ensures, w .joined .ensures, d .entry-at .ensures, e .entry-at2 .ensures) (pass (d .before .before .before) .issues _))
+    rw (v .vacate .ensures .1, w .joined .ensures, d .entry-at .ensures, e .entry-at2 .ensures) (pass (d .before .before .before) .issues _ _))
     (λ c κs. search needs)
     (λ c. search needs)
     (λ c.
@@ -35,4 +35,4 @@ grant-merge-spec =
     let e = w .before in
     let d = e .before .before in
     let s = d .before .before .before in
-    merge-grants _ _ _ _ _ _ _ _ _ (d .entry-at .result) (e .entry-at2 .result) (entryOf (wordsNumber (w .joined .result))) _ _ (i .reissue .result) _ (s .pre .1 .0) (s .pre .1 .1) (d .entry-at .ensures) (e .entry-at2 .ensures) (w .joined .ensures) (v .vacate .ensures) (i .reissue .ensures) (c .giving .ensures)))
+    merge-grants _ _ _ _ _ _ _ _ _ (d .entry-at .result) (e .entry-at2 .result) (entryOf (wordsNumber (w .joined .result))) _ _ _ (i .reissue .result) _ (s .pre .1 .0) (s .pre .1 .1) (d .entry-at .ensures) (e .entry-at2 .ensures) (w .joined .ensures) (v .vacate .ensures .0) (v .vacate .ensures .1) (i .reissue .ensures) (c .giving .ensures)))

@@ -34,7 +34,7 @@ grant-create-spec =
     (λ c κs. pass c .permitted)
     (λ c κs. let d = c .before .before .before in (issues d, d .before .before .before .before .before .pre .1))
     (λ c κs.
-    let g = c .before .before .before in
+    let g = c .before .before .before .before in
     let d = g .before .before .before .before in
     rest-in _ _ _ _ (dated (entryOf (wordsNumber (d .issued-direct .result)))) _ (g .give .ensures) (pass (d .before) .inside))
     (λ c κs. search needs)
@@ -44,17 +44,17 @@ grant-create-spec =
     (λ c κs.
     let f = c .before .before .before .before in
     let d = f .before .before in
-    (issues d, (d .before .before .before .before .before .pre .1, rest-issues _ _ _ _ _ _ _ _ (pass (d .before)) _ (rw (c .before .issued-direct2 .ensures) (laidDirect refl)) (f .if1 .left) _)))
+    (issues d, (d .before .before .before .before .before .pre .1, rest-issues _ _ _ _ _ _ _ _ (pass (d .before)) _ (rw (c .before .issued-direct2 .ensures) (laidDirect refl)) (f .if1 .left) _ _)))
     (λ c κs. search needs)
     (λ c. search needs)
     (λ c.
     let v = c .before .before .before in
-    let g = v .before .before .before .before in
+    let g = v .before .before .before .before .before in
     let f = g .before .before in
     let d = f .before .before in
     let e = d .before in
     let r = e .before .before in
-    create-whole _ _ _ _ _ _ _ _ _ _ _ _ (r .read .ensures) (e .entry-at .ensures) (d .issued-direct .ensures) _ _ (f .if1 .taken) (g .give .result) _ (g .give .ensures) (v .vacate .ensures) (c .giving .ensures))
+    create-whole _ _ _ _ _ _ _ _ _ _ _ _ (r .read .ensures) (e .entry-at .ensures) (d .issued-direct .ensures) _ _ (f .if1 .taken) (g .give .result) _ _ (g .give .ensures) (v .vacate .ensures .0) (v .vacate .ensures .1) (c .giving .ensures))
     (λ c. search needs)
     (λ c.
     let b = c .before .before .before in
