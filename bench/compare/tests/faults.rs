@@ -163,7 +163,8 @@ fn find_all(names: Vec<String>) -> Vec<Seen> {
         let seen = find(&name);
         all.lock().expect("what was seen").push(seen);
     };
-    let threads = thread::available_parallelism().map_or(1, usize::from);
+    // Two for each processor: a thread waits while its simulator answers.
+    let threads = 2 * thread::available_parallelism().map_or(1, usize::from);
     thread::scope(|scope| (0..threads).for_each(|_| drop(scope.spawn(work))));
     all.into_inner().expect("what was seen")
 }
