@@ -1,13 +1,20 @@
-//! Seeded faults: each edit of bench/faults is made in a copy of the model, which is built into the
-//! simulator and compared with the proved code. Each must be found soon, whatever the seed, and with
-//! the first seed shrunk to fewer than six requests. The sessions are left in bench/target/faults.
+//! Seeded faults: each edit of bench/faults is made in a copy of the model, which is built into a
+//! library, loaded and compared with the proved code. Each must be found soon, whatever the seed, and
+//! with the first seed shrunk to fewer than six requests. The sessions are left in bench/target/faults.
+//! With `--nocapture` it prints how soon each was found.
 
+#[path = "faults/machine.rs"]
+mod machine;
+
+use std::collections::BTreeSet;
 use std::path::{Path, PathBuf};
 use std::process::Command;
-use std::sync::Mutex;
+use std::sync::{mpsc, Arc, Mutex};
+use std::time::Duration;
 use std::{env, fs, thread};
 
-use compare::{run, Options, Outcome};
+use compare::{compare, Options, Outcome, Pair, Proved};
+use machine::Loaded;
 
 /// How many requests a fault may stay unseen, with each of these seeds.
 const REQUESTS: u64 = 20_000;
@@ -15,6 +22,9 @@ const SEEDS: std::ops::RangeInclusive<u64> = 1..=3;
 
 /// A shrunk session has fewer requests than this.
 const SHORT: usize = 6;
+
+/// Some fault is done at least so often; if none is, one of those at hand never answers.
+const PATIENCE: Duration = Duration::from_secs(120);
 
 /// An edit: in which file, what stands there, and what takes its place.
 struct Edit {
@@ -79,7 +89,7 @@ fn edited(name: &str, text: &str, edits: &[&Edit]) -> String {
     text
 }
 
-/// Copies the model's sources with the edits made.
+/// Copies the model's sources with the edits made, and with the function for C.
 fn copy(name: &str, folder: &Path) {
     let edits = edits(name);
     assert!(!edits.is_empty(), "{name}: no edit");
@@ -89,38 +99,25 @@ fn copy(name: &str, folder: &Path) {
         let file = format!("src/{}", path.file_name().unwrap().to_string_lossy());
         let here: Vec<&Edit> = edits.iter().filter(|edit| edit.file == file).collect();
         let text = fs::read_to_string(&path).expect("a source");
-        fs::write(folder.join(&file), edited(name, &text, &here)).expect("a copied source");
+        let more = if file == "src/lib.rs" { "\npub mod loaded;\n" } else { "" };
+        let text = edited(name, &text, &here) + more;
+        fs::write(folder.join(&file), text).expect("a copied source");
     }
+    fs::write(folder.join("src/loaded.rs"), include_str!("faults/loaded.rs")).expect("a source");
 }
 
-fn rustc(name: &str, folder: &Path, arguments: &[&str]) {
+/// Builds the copy into a library, in one run of the compiler.
+fn build(name: &str, folder: &Path) {
     let compiler = env::var("RUSTC").unwrap_or("rustc".to_string());
     let mut command = Command::new(compiler);
-    command.args([
-        "--edition",
-        "2021",
-        "--cap-lints",
-        "allow",
-        "-C",
-        "codegen-units=1",
-        "-C",
-        "opt-level=1",
-    ]);
-    let built = command.args(arguments).current_dir(folder).output().expect("rustc");
+    command.args(["--edition", "2021", "--cap-lints", "allow", "--crate-type", "cdylib"]);
+    command.args(["-C", "opt-level=1", "-C", "codegen-units=1"]);
+    command.args(["--crate-name", "faulty", "-o", LIBRARY, "src/lib.rs"]);
+    let built = command.current_dir(folder).output().expect("rustc");
     assert!(built.status.success(), "{name}: {}", String::from_utf8_lossy(&built.stderr));
 }
 
-/// Builds the simulator over the copy.
-fn build(name: &str, folder: &Path) {
-    let library = ["--crate-name", "model", "--crate-type", "rlib", "src/lib.rs"];
-    rustc(name, folder, &library);
-    let main = bench().canonicalize().expect("the bench").join("simulator/src/main.rs");
-    let main = main.to_string_lossy();
-    let model = ["--extern", "model=libmodel.rlib"];
-    // Its lines are long, its requests few.
-    let output = ["--crate-name", "simulator", "-o", "simulator", "-C", "opt-level=1"];
-    rustc(name, folder, &[&[&*main], &model[..], &output[..]].concat());
-}
+const LIBRARY: &str = "libfaulty.so";
 
 /// What became of a fault.
 struct Seen {
@@ -145,28 +142,62 @@ fn find(name: &str) -> Seen {
 
 /// The fault found with a seed; with the first one it is shrunk.
 fn found(name: &str, folder: &Path, seed: u64) -> Outcome {
-    let against = Some(format!("exec '{}'", folder.join("simulator").display()));
     let (requests, shrink) = (REQUESTS, seed == *SEEDS.start());
-    let options = Options { requests, seed, against, shrink, ..Options::default() };
-    let outcome = run(&options).expect("the faulty simulator runs");
+    let options = Options { requests, seed, shrink, ..Options::default() };
+    let faulty = Loaded::new(&folder.join(LIBRARY));
+    let pair = Pair::new(Box::new(Proved::new()), Box::new(faulty));
+    let outcome = compare(&options, pair).expect("a run");
     assert!(outcome.found.is_some(), "{name} was not found with seed {seed}");
     outcome
 }
 
-/// The faults left, taken by each of the threads in turn.
-fn find_all(names: Vec<String>) -> Vec<Seen> {
-    let (left, all) = (Mutex::new(names), Mutex::new(Vec::new()));
-    let work = || loop {
-        let Some(name) = left.lock().expect("the faults left").pop() else {
-            return;
-        };
+/// The faults that are left, and those at hand.
+struct Work {
+    left: Vec<String>,
+    at_hand: BTreeSet<String>,
+}
+
+/// Takes the next fault in hand.
+fn take(work: &Mutex<Work>) -> Option<String> {
+    let mut work = work.lock().expect("the faults");
+    let name = work.left.pop()?;
+    work.at_hand.insert(name.clone());
+    Some(name)
+}
+
+/// Finds the faults that are left, one after the other.
+fn find_left(work: &Mutex<Work>, all: &mpsc::Sender<Seen>) {
+    while let Some(name) = take(work) {
         let seen = find(&name);
-        all.lock().expect("what was seen").push(seen);
-    };
-    // Two for each processor: a thread waits while its simulator answers.
-    let threads = 2 * thread::available_parallelism().map_or(1, usize::from);
-    thread::scope(|scope| (0..threads).for_each(|_| drop(scope.spawn(work))));
-    all.into_inner().expect("what was seen")
+        work.lock().expect("the faults").at_hand.remove(&name);
+        all.send(seen).expect("one who waits for it");
+    }
+}
+
+/// All faults, shared by a thread for each processor.
+fn find_all(names: Vec<String>) -> Vec<Seen> {
+    let count = names.len();
+    let work = Arc::new(Mutex::new(Work { left: names, at_hand: BTreeSet::new() }));
+    let (sender, all) = mpsc::channel();
+    for _ in 0..thread::available_parallelism().map_or(1, usize::from) {
+        let (work, sender) = (work.clone(), sender.clone());
+        thread::spawn(move || find_left(&work, &sender));
+    }
+    drop(sender);
+    let next = || all.recv_timeout(PATIENCE).ok();
+    let seen: Vec<Seen> = std::iter::from_fn(next).take(count).collect();
+    let at_hand = work.lock().map(|work| work.at_hand.clone()).unwrap_or_default();
+    assert_eq!(seen.len(), count, "not found, or never done: one of {at_hand:?}");
+    seen
+}
+
+/// Within how many requests half of the runs came to their fault, nine in ten, and the last.
+fn soon(all: &[Seen]) -> String {
+    let mut runs: Vec<u64> = all.iter().flat_map(|seen| seen.requests.clone()).collect();
+    runs.sort_unstable();
+    let within = |tenths: usize| runs[(runs.len() * tenths).div_ceil(10) - 1];
+    let (count, half, most, last) = (runs.len(), within(5), within(9), within(10));
+    format!("{count} runs: half within {half}, nine in ten within {most}, the last within {last}")
 }
 
 #[test]
@@ -178,6 +209,7 @@ fn each_fault_is_found_and_shrunk() {
     for Seen { name, requests, shrunk } in &all {
         println!("{name}: found at {requests:?}, shrunk to {shrunk} requests");
     }
+    println!("{}", soon(&all));
     let long: Vec<&str> =
         all.iter().filter(|seen| seen.shrunk >= SHORT).map(|seen| &*seen.name).collect();
     assert!(long.is_empty(), "not shrunk enough: {long:?}");
