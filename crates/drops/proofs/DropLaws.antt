@@ -30,7 +30,7 @@ use Rattle.machine.proofs.Fuel.{climb-fuel}
 use Rattle.machine.proofs.TableLaws.{at-other, length-put}
 use Rattle.machine.proofs.WriteLaws.{calm-still, release-calm, Still}
 use Rattle.table.proofs.LineLaws.{walk-in, walk-less}
-use Rattle.issuing.specs.Left.{Left, leftBy}
+use Rattle.table.specs.Left.{Left, leftBy}
 use Rattle.table.specs.States.{retotalled, stateAs}
 use Rattle.table.specs.declared.state.StateWords.{StateWords}
 use Rattle.rulings.specs.Rulings.{granting, handed, plainly, Ruling, tokensOn, verdictOn}

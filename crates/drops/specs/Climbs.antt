@@ -6,7 +6,7 @@ use mathlib.Core.List.{List, []}
 use Prim.Native.Nat.{ℕ, suc, _+_, _-_, _*_, _/_, _%_, _≤_}
 use lib.Dec.{eqb, leb, ltb}
 use lib.ListN.{length}
-use Rattle.issuing.specs.Left.{Left, leftBy}
+use Rattle.table.specs.Left.{Left, leftBy}
 use Rattle.machine.specs.Operations.{climb}
 use Rattle.machine.specs.Parts.{at, mostFree, State, totalled}
 use Rattle.machine.specs.Writes.{opened, written}

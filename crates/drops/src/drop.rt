@@ -1,13 +1,13 @@
 // Drop takes one from the count; an indirect entry at 1 is freed, and the drop climbs.
+use altering::writes::empty;
+use altering::writes::most_free;
+use altering::writes::recount;
+use altering::writes::vacate;
 use checks::reach::Formed;
 use checks::reach::forms;
 use checks::reach::reach_near;
 use checks::refusal::Refusal;
 use checks::settings::settings;
-use issuing::writes::empty;
-use issuing::writes::most_free;
-use issuing::writes::recount;
-use issuing::writes::vacate;
 use rulings::reply::Outcome;
 use rulings::reply::plain;
 use rulings::reply::refused;

@@ -1,2 +1,1 @@
-pub mod NonceLaws
 pub mod WriteLaws

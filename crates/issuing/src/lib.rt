@@ -1,3 +1,2 @@
-// Issuing: what is written into state and table. The few functions that issue, free and alter entries.
-pub mod issue;
+// Issuing: the writes that issue entries.
 pub mod writes;

@@ -1,10 +1,10 @@
 // Lock sets the lock of the line's owner, and unlock clears it.
+use altering::writes::relock;
 use checks::reach::Reached;
 use checks::reach::opens;
 use checks::reach::reach_near;
 use checks::refusal::Refusal;
 use checks::settings::settings;
-use issuing::writes::relock;
 use rulings::reply::Outcome;
 use rulings::reply::plain;
 use rulings::reply::refused;

@@ -24,7 +24,8 @@ use Rattle.machine.specs.Stops.{atBounds, atKind, atNonces, atStanding, checks,
 use Rattle.machine.specs.Writes.{oneMore, opened, reissue, vacated, write}
 use Rattle.machine.proofs.Decided.{Passed}
 use Rattle.machine.proofs.TableLaws.{length-put}
-use Rattle.issuing.specs.Left.{Issues, issuedAs, leftBy}
+use Rattle.issuing.specs.Issued.{Issues, issuedAs}
+use Rattle.table.specs.Left.{leftBy}
 use Rattle.table.specs.States.{stateAs}
 use Rattle.table.specs.declared.state.StateWords.{StateWords}
 use Rattle.issuing.specs.declared.writes.Issued.{Issued}

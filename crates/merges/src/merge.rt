@@ -1,11 +1,11 @@
 // Merge joins two neighbours into one segment.
+use altering::writes::vacate;
 use checks::reach::Reached;
 use checks::reach::opens;
 use checks::reach::reach_near;
 use checks::refusal::Refusal;
 use checks::settings::settings;
 use issuing::writes::reissue;
-use issuing::writes::vacate;
 use layout::entry::Entry;
 use layout::entry::Words;
 use layout::entry::issued_direct;

@@ -16,7 +16,8 @@ use Rattle.machine.specs.Parts.{at, put, size, spent, State}
 use Rattle.machine.specs.Steps.{stop}
 use Rattle.machine.specs.Stops.{atStanding}
 use Rattle.machine.specs.Writes.{give, opened, write}
-use Rattle.issuing.specs.Left.{issuedAs, Left, leftBy}
+use Rattle.issuing.specs.Issued.{issuedAs}
+use Rattle.table.specs.Left.{Left, leftBy}
 use Rattle.table.specs.States.{stateAs}
 use Rattle.table.specs.declared.state.StateWords.{StateWords}
 use Rattle.issuing.specs.declared.writes.Issued.{Issued}

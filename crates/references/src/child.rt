@@ -1,7 +1,7 @@
 // Children: what derive and execute-only share.
+use altering::writes::recount;
 use checks::refusal::Refusal;
 use issuing::writes::give;
-use issuing::writes::recount;
 use layout::entry::Entry;
 use layout::entry::base_of;
 use layout::entry::count_of;

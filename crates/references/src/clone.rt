@@ -1,9 +1,9 @@
 // Clone adds one to the count.
+use altering::writes::recount;
 use checks::reach::Reached;
 use checks::reach::reach_near;
 use checks::refusal::Refusal;
 use checks::settings::settings;
-use issuing::writes::recount;
 use layout::entry::count_of;
 use rulings::reply::Checked;
 use rulings::reply::Outcome;

@@ -26,7 +26,8 @@ use Rattle.machine.specs.Writes.{give, oneMore, opened, reissue, vacated, write
 use Rattle.machine.proofs.Choices.{by-both}
 use Rattle.machine.proofs.Decided.{AllTrue, Passed}
 use Rattle.machine.proofs.TableLaws.{length-put}
-use Rattle.issuing.specs.Left.{Issues, issuedAs, issuedTwoAs, Left, leftBy}
+use Rattle.issuing.specs.Issued.{Issues, issuedAs, issuedTwoAs}
+use Rattle.table.specs.Left.{Left, leftBy}
 use Rattle.table.specs.States.{retotalled, stateAs}
 use Rattle.table.specs.declared.state.StateWords.{StateWords}
 use Rattle.issuing.specs.declared.writes.Issued.{Issued}

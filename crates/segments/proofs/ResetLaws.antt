@@ -15,7 +15,7 @@ use Rattle.machine.specs.Steps.{pass}
 use Rattle.machine.specs.Stops.{checks}
 use Rattle.machine.specs.Writes.{begin, opened, write}
 use Rattle.machine.proofs.Decided.{Passed}
-use Rattle.issuing.specs.Left.{begunAs, leftBy}
+use Rattle.table.specs.Left.{begunAs, leftBy}
 use Rattle.table.specs.States.{stateAs}
 use Rattle.table.specs.declared.state.StateWords.{StateWords}
 use Rattle.rulings.specs.Rulings.{granting, handed, plainly, restOn, tokensOn, verdictOn}

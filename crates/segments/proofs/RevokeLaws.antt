@@ -25,9 +25,10 @@ use Rattle.machine.specs.Stops.{atKind, atNonces, checks, places, sizes}
 use Rattle.machine.specs.Writes.{opened, otherNonce, renew, write}
 use Rattle.machine.proofs.Decided.{AllTrue, Passed}
 use Rattle.machine.proofs.WriteLaws.{other-least}
-use Rattle.issuing.specs.Left.{Issues, issuedAs, leftBy, Renews}
+use Rattle.issuing.specs.Issued.{Issues, issuedAs, Renews}
+use Rattle.table.specs.Left.{leftBy}
 use Rattle.table.specs.States.{stateAs}
-use Rattle.issuing.specs.declared.issue.Renewed.{Renewed}
+use Rattle.entering.specs.declared.issue.Renewed.{Renewed}
 use Rattle.table.specs.declared.state.StateWords.{StateWords}
 use Rattle.issuing.specs.declared.writes.Issued.{Issued}
 use Rattle.rulings.specs.Rulings.{givingOne, grantedEffect, granting, handed, restOn, tokensOn, verdictOn}

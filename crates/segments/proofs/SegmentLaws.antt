@@ -4,7 +4,7 @@ use mathlib.Core.Path.{_≡_, refl, _∙_}
 use mathlib.Core.Bool.{Bool, true, false, _&&_, cond}
 use Rattle.machine.specs.Operations.{granted}
 use Rattle.machine.specs.Steps.{Verdict}
-use Rattle.issuing.specs.Left.{Left}
+use Rattle.table.specs.Left.{Left}
 use Rattle.rulings.specs.Rulings.{Ruling}
 
 -- two facts with one refusal, and four

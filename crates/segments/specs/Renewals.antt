@@ -7,7 +7,7 @@ use Rattle.checks.specs.Refusals.{stopAs}
 use Rattle.machine.specs.Operations.{fresh, namedEntry, numberOf}
 use Rattle.machine.specs.Parts.{State}
 use Rattle.machine.specs.Steps.{pass, Verdict}
-use Rattle.issuing.specs.Left.{Renews}
+use Rattle.issuing.specs.Issued.{Renews}
 use Rattle.segments.specs.declared.revoke.Renewal.{Renewal}
 use Rattle.segments.specs.declared.revoke.Renewal.the-variants.{Anew, Stop}
 

@@ -1,4 +1,5 @@
 // Create splits a segment: a front part gets a new number, and the rest keeps the old one.
+use altering::writes::vacate;
 use checks::reach::Reached;
 use checks::reach::opens;
 use checks::reach::reach_near;
@@ -6,7 +7,6 @@ use checks::refusal::Refusal;
 use checks::settings::settings;
 use issuing::writes::give;
 use issuing::writes::give_and_reissue;
-use issuing::writes::vacate;
 use layout::entry::Entry;
 use layout::entry::issued_direct;
 use rulings::allot::Allotted;

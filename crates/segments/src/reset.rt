@@ -1,7 +1,7 @@
 // Reset: the root over all of memory, and nothing else.
+use altering::writes::begin;
 use checks::refusal::Refusal;
 use checks::settings::sizes;
-use issuing::writes::begin;
 use rulings::reply::Checked;
 use rulings::reply::Outcome;
 use rulings::reply::plain;

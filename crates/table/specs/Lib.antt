@@ -1,4 +1,5 @@
 pub mod Cuts
+pub mod Left
 pub mod Lines
 pub mod States
 pub mod Stores

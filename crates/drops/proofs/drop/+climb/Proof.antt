@@ -13,8 +13,8 @@ use Rattle.table.proofs.entries.entry_at.Reads as entry-at-reads
 use Rattle.table.proofs.entries.words_at.Reads as words-at-reads
 use Rattle.table.proofs.line.linked.Reads as linked-reads
 use Rattle.table.proofs.line.parent_number.Reads as parent-number-reads
-use Rattle.issuing.proofs.writes.recount.Reads as recount-reads
-use Rattle.issuing.proofs.writes.empty.Reads as empty-reads
+use Rattle.altering.proofs.writes.recount.Reads as recount-reads
+use Rattle.altering.proofs.writes.empty.Reads as empty-reads
 use Rattle.drops.proofs.DropLaws.{climb-at-less, climb-at-none, climb-gone, climb-next, climb-there, climb-up, count-most, count-one, neither}
 use Rattle.drops.proofs.drop.climb.Reads as climb
 use Rattle.drops.proofs.drop.counted.Reads as counted

@@ -4,7 +4,7 @@ use mathlib.Core.Path.{refl}
 use native.Mathlib.Omega.{arith}
 use borrow.Author.Needs.{needs}
 use Rattle.layout.specs.Entry.{dated, entryOf, laidDirect, wordsNumber}
-use Rattle.issuing.specs.Left.{Issues}
+use Rattle.issuing.specs.Issued.{Issues}
 use Rattle.table.specs.States.{stateAs}
 use Rattle.segments.proofs.CreateLaws.{create-in, create-rest, create-whole, Parting, parting, rest-in, rest-issues}
 use Rattle.segments.proofs.create.grant_create.Statement.{statement}

@@ -1,4 +1,4 @@
--- `issuing::writes::begin` meets its contract: the table is cleared, then holds the root.
+-- `altering::writes::begin` meets its contract: the table is cleared, then holds the root.
 -- Assumes nothing.
 use mathlib.Core.Path.{refl}
 use native.Mathlib.Omega.{arith}
@@ -7,9 +7,9 @@ use borrow.Author.Needs.{needs}
 use Rattle.layout.specs.Entry.{laidDirect}
 use Rattle.layout.proofs.EntryLaws.{laid-words}
 use Rattle.table.specs.States.{stateAs}
-use Rattle.issuing.proofs.WriteLaws.{begin-left}
-use Rattle.issuing.proofs.writes.begin.Statement.{statement}
-use Rattle.issuing.proofs.writes.begin.Tie as tie
+use Rattle.altering.proofs.WriteLaws.{begin-left}
+use Rattle.altering.proofs.writes.begin.Statement.{statement}
+use Rattle.altering.proofs.writes.begin.Tie as tie
 
 pub begin-spec : {M : Type 1} → statement M
 begin-spec =

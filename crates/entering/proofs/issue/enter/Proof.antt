@@ -1,8 +1,8 @@
--- `issuing::issue::enter` meets its contract: the words are those of the entry with nonce and tag.
+-- `entering::issue::enter` meets its contract: the words are those of the entry with nonce and tag.
 -- Assumes nothing.
 use borrow.Author.Needs.{needs}
-use Rattle.issuing.proofs.issue.enter.Statement.{statement}
-use Rattle.issuing.proofs.issue.enter.Tie as tie
+use Rattle.entering.proofs.issue.enter.Statement.{statement}
+use Rattle.entering.proofs.issue.enter.Tie as tie
 
 pub enter-spec : {M : Type 1} → statement M
 enter-spec =

@@ -1,4 +1,4 @@
--- `issuing::issue::pass_over` meets its contract. The loop's invariant: the search goes on from the nonce.
+-- `entering::issue::pass_over` meets its contract. The loop's invariant: the search goes on from the nonce.
 -- Assumes nothing.
 use mathlib.Core.Path.{_≡_, refl}
 use Prim.Native.Nat.{_-_, _≤_}
@@ -8,9 +8,9 @@ use Rattle.layout.specs.Entry.{dated, entryOf, wordsNumber}
 use Rattle.machine.specs.Issuing.{passOver}
 use Rattle.machine.specs.Parts.{spent}
 use Rattle.table.specs.States.{stateAs}
-use Rattle.issuing.proofs.NonceLaws.{pass-found, pass-none, pass-on}
-use Rattle.issuing.proofs.issue.pass_over.Statement.{statement}
-use Rattle.issuing.proofs.issue.pass_over.Tie as tie
+use Rattle.entering.proofs.NonceLaws.{pass-found, pass-none, pass-on}
+use Rattle.entering.proofs.issue.pass_over.Statement.{statement}
+use Rattle.entering.proofs.issue.pass_over.Tie as tie
 
 abbrev Inv-loop : tie.InvT-loop
 Inv-loop s n w old nonce₀ nonce =

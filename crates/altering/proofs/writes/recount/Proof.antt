@@ -1,8 +1,8 @@
--- `issuing::writes::recount` meets its contract: the words that are stored are those of the entry.
+-- `altering::writes::recount` meets its contract: the words that are stored are those of the entry.
 -- Assumes nothing.
 use borrow.Author.Needs.{needs}
-use Rattle.issuing.proofs.writes.recount.Statement.{statement}
-use Rattle.issuing.proofs.writes.recount.Tie as tie
+use Rattle.altering.proofs.writes.recount.Statement.{statement}
+use Rattle.altering.proofs.writes.recount.Tie as tie
 
 pub recount-spec : {M : Type 1} → statement M
 recount-spec =

@@ -1,8 +1,8 @@
--- `issuing::issue::tag_under` meets its contract: the words are those of the entry with the nonce and tag 0.
+-- `entering::issue::tag_under` meets its contract: the words are those of the entry with the nonce and tag 0.
 -- Assumes nothing.
 use borrow.Author.Needs.{needs}
-use Rattle.issuing.proofs.issue.tag_under.Statement.{statement}
-use Rattle.issuing.proofs.issue.tag_under.Tie as tie
+use Rattle.entering.proofs.issue.tag_under.Statement.{statement}
+use Rattle.entering.proofs.issue.tag_under.Tie as tie
 
 pub tag-under-spec : {M : Type 1} → statement M
 tag-under-spec =

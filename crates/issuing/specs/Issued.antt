@@ -1,36 +1,25 @@
--- What a write leaves, as the code hands it back: state and table, and the tokens that it gives.
+-- What an issue leaves, and what it needs.
 -- Assumes nothing.
 use mathlib.Core.Path.{_≡_}
 use mathlib.Core.List.{List, [], _∷_}
 use Prim.Native.Nat.{ℕ, _+_, _*_, _≤_, _<_}
 use lib.ListN.{length}
+use Rattle.entering.specs.declared.issue.Renewed.{Renewed}
 use Rattle.layout.specs.Entry.{dated, Laid}
 use Rattle.layout.specs.declared.entry.Entry.{Entry}
 use Rattle.machine.specs.Issuing.{issue}
 use Rattle.machine.specs.Parts.{spent, State}
-use Rattle.machine.specs.Writes.{Book, otherNonce}
+use Rattle.machine.specs.Writes.{otherNonce}
+use Rattle.table.specs.Left.{Left}
 use Rattle.table.specs.States.{stateAs}
-use Rattle.issuing.specs.declared.issue.Renewed.{Renewed}
-use Rattle.table.specs.declared.state.StateWords.{StateWords}
 use Rattle.issuing.specs.declared.writes.Issued.{Issued}
 use Rattle.issuing.specs.declared.writes.IssuedTwo.{IssuedTwo}
-
-pub record Left : Type 0 where
-  pub state : State
-  pub table : List ℕ
-  pub tokens : List ℕ
-
-abbrev pub leftBy : Book → Left
-leftBy b = record { state = b .state; table = b .table; tokens = b .tokens }
 
 abbrev pub issuedAs : Issued → List ℕ → Left
 issuedAs r t = record { state = stateAs (r .state); table = t; tokens = r .token ∷ [] }
 
 abbrev pub issuedTwoAs : IssuedTwo → List ℕ → Left
 issuedTwoAs r t = record { state = stateAs (r .state); table = t; tokens = r .first ∷ r .second ∷ [] }
-
-abbrev pub begunAs : StateWords → List ℕ → Left
-begunAs s t = record { state = stateAs s; table = t; tokens = [] }
 
 -- what must hold for the entry e to be issued under number n
 pub record Issues (s : State) (t : List ℕ) (n : ℕ) (e : Entry) (encoding : ℕ) : Type 0 where

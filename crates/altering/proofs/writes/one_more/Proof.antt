@@ -1,9 +1,9 @@
--- `issuing::writes::one_more` meets its contract: a law of the definition's tests for each way out.
+-- `altering::writes::one_more` meets its contract: a law of the definition's tests for each way out.
 -- Assumes nothing.
 use borrow.Author.Needs.{needs}
 use borrow.Author.Tests.{eq-eqb, le-ltb, lt-ltb, ne-eqb}
-use Rattle.issuing.proofs.writes.one_more.Statement.{statement}
-use Rattle.issuing.proofs.writes.one_more.Tie as tie
+use Rattle.altering.proofs.writes.one_more.Statement.{statement}
+use Rattle.altering.proofs.writes.one_more.Tie as tie
 
 pub one-more-spec : {M : Type 1} → statement M
 one-more-spec =

@@ -16,7 +16,7 @@ ghost use Rattle.machine.specs.Writes.{tokenFor};
 ghost use Rattle.table.specs.States.{stateAs};
 
 // The tag of the entry whose words are w, as it is issued under number n with the nonce.
-pub(crate) fn tag_under(s: StateWords, n: usize, w: Words, nonce: u32) -> u16
+pub fn tag_under(s: StateWords, n: usize, w: Words, nonce: u32) -> u16
     requires { ⌜ Laid (entryOf (wordsNumber w) .kind) ⌝ }
     ensures { λ r. ⌜ r ≡ issue (stateAs s) n (dated (entryOf (wordsNumber w)) nonce) .tag ⌝ }
 {
@@ -24,14 +24,7 @@ pub(crate) fn tag_under(s: StateWords, n: usize, w: Words, nonce: u32) -> u16
 }
 
 // It is stored under number n with nonce and tag; gives its token.
-pub(crate) fn enter(
-    table: &mut [u8],
-    n: usize,
-    w: Words,
-    nonce: u32,
-    tag: u16,
-    encoding: u64,
-) -> u64
+pub fn enter(table: &mut [u8], n: usize, w: Words, nonce: u32, tag: u16, encoding: u64) -> u64
     requires { ⌜ (32 * n + 32 ≤ length (now table)) × (n < 1024) ⌝ }
     requires { ⌜ (encoding ≤ 3) × Laid (entryOf (wordsNumber w) .kind) ⌝ }
     ensures { λ r. ⌜ r ≡ tokenFor encoding (record { number = n; tag = tag }) ⌝ }

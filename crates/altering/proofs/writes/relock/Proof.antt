@@ -1,8 +1,8 @@
--- `issuing::writes::relock` meets its contract: the words that are stored are those of the entry.
+-- `altering::writes::relock` meets its contract: the words that are stored are those of the entry.
 -- Assumes nothing.
 use borrow.Author.Needs.{needs}
-use Rattle.issuing.proofs.writes.relock.Statement.{statement}
-use Rattle.issuing.proofs.writes.relock.Tie as tie
+use Rattle.altering.proofs.writes.relock.Statement.{statement}
+use Rattle.altering.proofs.writes.relock.Tie as tie
 
 pub relock-spec : {M : Type 1} → statement M
 relock-spec =

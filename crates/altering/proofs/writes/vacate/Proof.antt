@@ -1,9 +1,9 @@
--- `issuing::writes::vacate` meets its contract: the entry is free, and one number more.
+-- `altering::writes::vacate` meets its contract: the entry is free, and one number more.
 -- Assumes nothing.
 use native.Mathlib.Omega.{arith}
 use borrow.Author.Needs.{needs}
-use Rattle.issuing.proofs.writes.vacate.Statement.{statement}
-use Rattle.issuing.proofs.writes.vacate.Tie as tie
+use Rattle.altering.proofs.writes.vacate.Statement.{statement}
+use Rattle.altering.proofs.writes.vacate.Tie as tie
 
 pub vacate-spec : {M : Type 1} → statement M
 vacate-spec =

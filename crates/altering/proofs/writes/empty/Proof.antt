@@ -1,8 +1,8 @@
--- `issuing::writes::empty` meets its contract: the words of a free entry.
+-- `altering::writes::empty` meets its contract: the words of a free entry.
 -- Assumes nothing.
 use borrow.Author.Needs.{needs}
-use Rattle.issuing.proofs.writes.empty.Statement.{statement}
-use Rattle.issuing.proofs.writes.empty.Tie as tie
+use Rattle.altering.proofs.writes.empty.Statement.{statement}
+use Rattle.altering.proofs.writes.empty.Tie as tie
 
 pub empty-spec : {M : Type 1} → statement M
 empty-spec =
