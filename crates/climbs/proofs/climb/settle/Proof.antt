@@ -1,10 +1,10 @@
--- `drops::drop::settle` meets its contract: a direct entry stays.
+-- `climbs::climb::settle` meets its contract: a direct entry stays.
 -- Assumes nothing.
 use native.Mathlib.Omega.{arith}
 use borrow.Author.Needs.{needs}
-use Rattle.drops.proofs.DropLaws.{climb-direct, direct-some}
-use Rattle.drops.proofs.drop.settle.Statement.{statement}
-use Rattle.drops.proofs.drop.settle.Tie as tie
+use Rattle.climbs.proofs.ClimbLaws.{climb-direct, direct-some}
+use Rattle.climbs.proofs.climb.settle.Statement.{statement}
+use Rattle.climbs.proofs.climb.settle.Tie as tie
 
 pub settle-spec : {M : Type 1} → statement M
 settle-spec =

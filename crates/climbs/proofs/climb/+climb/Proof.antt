@@ -1,4 +1,4 @@
--- `drops::drop::climb` meets its contract: one law for each way out. The calls that are left fall at each call.
+-- `climbs::climb::climb` meets its contract: one law for each way out. The calls that are left fall at each call.
 -- Assumes nothing.
 use mathlib.Core.Path.{refl}
 use Prim.Native.Nat.{ℕ, _+_, _*_, _≤_, _<_}
@@ -15,13 +15,13 @@ use Rattle.table.proofs.line.linked.Reads as linked-reads
 use Rattle.table.proofs.line.parent_number.Reads as parent-number-reads
 use Rattle.altering.proofs.writes.recount.Reads as recount-reads
 use Rattle.altering.proofs.writes.empty.Reads as empty-reads
-use Rattle.drops.proofs.DropLaws.{climb-at-less, climb-at-none, climb-gone, climb-next, climb-there, climb-up, count-most, count-one, neither}
-use Rattle.drops.proofs.drop.climb.Reads as climb
-use Rattle.drops.proofs.drop.counted.Reads as counted
-use Rattle.drops.proofs.drop.climb.Kinds as climb-kinds
-use Rattle.drops.proofs.drop.+climb.Lts-climb as climb-lts
-use Rattle.drops.proofs.drop.+climb.{statement}
-use Rattle.drops.proofs.drop.+climb.Tie.{close}
+use Rattle.climbs.proofs.ClimbLaws.{climb-at-less, climb-at-none, climb-gone, climb-next, climb-there, climb-up, count-most, count-one, neither}
+use Rattle.climbs.proofs.climb.climb.Reads as climb
+use Rattle.climbs.proofs.climb.counted.Reads as counted
+use Rattle.climbs.proofs.climb.climb.Kinds as climb-kinds
+use Rattle.climbs.proofs.climb.+climb.Lts-climb as climb-lts
+use Rattle.climbs.proofs.climb.+climb.{statement}
+use Rattle.climbs.proofs.climb.+climb.Tie.{close}
 
 abbrev μ-climb : Measures 1 climb-kinds.ps ℕ
 μ-climb κs a = a .1 .1 .0

@@ -1,10 +1,10 @@
--- `drops::drop::fall` meets its contract: a direct entry stays, and from an entry that is freed the climb goes on to its parent.
+-- `climbs::climb::fall` meets its contract: a direct entry stays, and from an entry that is freed the climb goes on to its parent.
 -- Assumes nothing.
 use native.Mathlib.Omega.{arith}
 use borrow.Author.Needs.{needs}
-use Rattle.drops.proofs.DropLaws.{climb-direct, direct-some, fall-in, fall-up}
-use Rattle.drops.proofs.drop.fall.Statement.{statement}
-use Rattle.drops.proofs.drop.fall.Tie as tie
+use Rattle.climbs.proofs.ClimbLaws.{climb-direct, direct-some, fall-in, fall-up}
+use Rattle.climbs.proofs.climb.fall.Statement.{statement}
+use Rattle.climbs.proofs.climb.fall.Tie as tie
 
 pub fall-spec : {M : Type 1} → statement M
 fall-spec =

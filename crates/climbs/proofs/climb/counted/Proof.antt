@@ -1,10 +1,10 @@
--- `drops::drop::counted` meets its contract: number 0 does not count.
+-- `climbs::climb::counted` meets its contract: number 0 does not count.
 -- Assumes nothing.
 use native.Mathlib.Omega.{arith}
 use borrow.Author.Needs.{needs}
 use borrow.Author.Tests.{eq-eqb, ne-eqb}
-use Rattle.drops.proofs.drop.counted.Statement.{statement}
-use Rattle.drops.proofs.drop.counted.Tie as tie
+use Rattle.climbs.proofs.climb.counted.Statement.{statement}
+use Rattle.climbs.proofs.climb.counted.Tie as tie
 
 pub counted-spec : {M : Type 1} → statement M
 counted-spec =

@@ -1,10 +1,10 @@
--- `drops::drop::raise` meets its contract: a law for each way out.
+-- `climbs::climb::raise` meets its contract: a law for each way out.
 -- Assumes nothing.
 use native.Mathlib.Omega.{arith}
 use borrow.Author.Needs.{needs}
-use Rattle.drops.proofs.DropLaws.{raise-in, raise-out, raise-top}
-use Rattle.drops.proofs.drop.raise.Statement.{statement}
-use Rattle.drops.proofs.drop.raise.Tie as tie
+use Rattle.climbs.proofs.ClimbLaws.{raise-in, raise-out, raise-top}
+use Rattle.climbs.proofs.climb.raise.Statement.{statement}
+use Rattle.climbs.proofs.climb.raise.Tie as tie
 
 pub raise-spec : {M : Type 1} → statement M
 raise-spec =

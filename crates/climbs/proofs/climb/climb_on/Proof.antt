@@ -1,14 +1,14 @@
--- `drops::drop::climb_on` meets its contract. The loop's invariant: so far the climb has come. The nonce falls with each turn.
+-- `climbs::climb::climb_on` meets its contract. The loop's invariant: so far the climb has come. The nonce falls with each turn.
 -- Assumes nothing.
 use mathlib.Core.Path.{_≡_, refl}
 use native.Mathlib.Omega.{arith}
 use lib.ListN.{length}
 use borrow.Author.Needs.{needs}
 use Rattle.machine.specs.Parts.{mostFree}
-use Rattle.drops.specs.Climbs.{Ahead, yet}
-use Rattle.drops.proofs.DropLaws.{ahead-next, ahead-on, long-on, yet-less}
-use Rattle.drops.proofs.drop.climb_on.Statement.{statement}
-use Rattle.drops.proofs.drop.climb_on.Tie as tie
+use Rattle.climbs.specs.Climbs.{Ahead, yet}
+use Rattle.climbs.proofs.ClimbLaws.{ahead-next, ahead-on, long-on, yet-less}
+use Rattle.climbs.proofs.climb.climb_on.Statement.{statement}
+use Rattle.climbs.proofs.climb.climb_on.Tie as tie
 
 abbrev Inv-loop : tie.InvT-loop
 Inv-loop total₀ table₀ n top next₀ kept₀ table next kept = (length table ≡ length table₀) × Ahead total₀ table₀ n kept table next

@@ -1,0 +1,2 @@
+// Climbs: how a drop goes up a line.
+pub mod climb;
