@@ -16,7 +16,7 @@ extern "C" {
 #endif
 
 /* The interface's version. It is raised with every change that a caller can see. */
-#define NORTHBRIDGE_VERSION 4
+#define NORTHBRIDGE_VERSION 5
 
 /* Sizes in bytes. All words have 64 bits, the low byte first. */
 #define NORTHBRIDGE_REQUEST_SIZE 64
@@ -28,14 +28,20 @@ extern "C" {
 #define NORTHBRIDGE_ACCESS_MOST 4096
 #define NORTHBRIDGE_TEXT_MOST 65536
 
+/* A lease, the most that all leases have that are lent with a call, both in bytes, and the minutes of a week, which are 0 to 10,079. */
+#define NORTHBRIDGE_LEASE_SIZE 8
+#define NORTHBRIDGE_LEASES_MOST 512
+#define NORTHBRIDGE_WEEK 10080
+
 /*
- * The words of a request, by their index. Words that an operation does not use are not looked at.
+ * The words of a request, by their index. Words that an operation does not use are not looked at; the minute neither where no leases are
+ * lent, that is by northbridge_serve.
  *
  *     operation         uses, beside word 0
  *     0  reset          token: the first key word; second: the second key word; task: the first nonce
- *     1  read           token, task; the segment's bytes go to the buffer
- *     2  write          token, task; the buffer goes to the segment
- *     3  fetch          token, task; as read, for instructions
+ *     1  read           token, second: the minute; task; the segment's bytes go to the buffer
+ *     2  write          token, second: the minute; task; the buffer goes to the segment
+ *     3  fetch          token, second: the minute; task; as read, for instructions
  *     4  create         token, task, length, user, permissions, encoding
  *     5  merge          token, second: the second token; task, encoding
  *     6  derive         token, second: the offset; length, permissions, encoding
@@ -45,8 +51,8 @@ extern "C" {
  *     10 lock           token, task
  *     11 unlock         token, task
  *     12 revoke         token, encoding
- *     13 load           token, task; what the buffer's text says goes to the segment
- *     14 dump           token, task; the segment goes to the buffer's front as text
+ *     13 load           token, second: the minute; task; what the buffer's text says goes to the segment
+ *     14 dump           token, second: the minute; task; the segment goes to the buffer's front as text
  *
  * The text of a load and of a dump is Intel HEX with records of the types 00, 01 and 04, each ending in a line feed.
  */
@@ -119,7 +125,9 @@ enum northbridge_refusal {
     NORTHBRIDGE_NO_NONCE = 11,   /* too few nonces */
     NORTHBRIDGE_MALFORMED = 12,  /* a record of a load's text, or its ending, is malformed */
     NORTHBRIDGE_CHECKSUM = 13,   /* a record's checksum is wrong */
-    NORTHBRIDGE_NO_ROOM = 14     /* a dump's text is longer than the buffer, or than 65,536 bytes */
+    NORTHBRIDGE_NO_ROOM = 14,    /* a dump's text is longer than the buffer, or than 65,536 bytes */
+    NORTHBRIDGE_CLOSED = 15,     /* the token has leases, and none of them is open at that minute */
+    NORTHBRIDGE_BAD_LEASE = 16   /* a lease's minutes are equal, or one is beyond the week */
 };
 
 /*
@@ -153,6 +161,27 @@ uint64_t northbridge_serve(
     uint8_t *buffer, size_t buffer_length,
     uint8_t *answer, size_t answer_length);
 
+/*
+ * The same, with leases: which tokens open accesses at which minutes of the week, Monday 00:00 being minute 0. They are a further slice,
+ * which is read only, and which others may read during the call:
+ *
+ *     leases    up to 64 leases of 8 bytes, one behind the other; none are an empty slice; another length is refusal 1, of any request
+ *
+ * A lease is four numbers of 16 bits, the low byte first: number and tag of the token that it is for, the minute at which it opens and the
+ * one at which it closes. It is open from its opening on, up to the minute before its closing, over the week's end if the opening is the
+ * later one. A token that has leases opens an access only while one of them is open; it has those with its own number and tag, and what is
+ * derived below it has not. Read, write, fetch, load and dump bring the minute and look at the leases; no other request
+ * looks at more of them than their length.
+ */
+uint64_t northbridge_serve_leased(
+    const uint8_t *request, size_t request_length,
+    uint8_t *state, size_t state_length,
+    uint8_t *table, size_t table_length,
+    uint8_t *memory, size_t memory_length,
+    uint8_t *buffer, size_t buffer_length,
+    uint8_t *answer, size_t answer_length,
+    const uint8_t *leases, size_t leases_length);
+
 /* ---- From C99 on, and in C++: a function for each operation. They need nothing but the declarations above. */
 #if defined(__cplusplus) || (defined(__STDC_VERSION__) && __STDC_VERSION__ >= 199901L)
 
@@ -168,6 +197,9 @@ struct northbridge {
     size_t table_length;
     uint8_t *memory;
     size_t memory_length;
+    const uint8_t *leases; /* null: there are no shifts, and the minute is not looked at */
+    size_t leases_length;
+    uint64_t minute;
 };
 
 /* An answer, by the names of its words. A token is 0 where the request gives none; 0 is also the token of the root. */
@@ -188,7 +220,7 @@ struct northbridge_request {
 /* A machine over a table and a memory, still to be reset. */
 static inline struct northbridge northbridge_over(void *table, size_t table_length, void *memory, size_t memory_length)
 {
-    struct northbridge bridge = {{0}, (uint8_t *)table, table_length, (uint8_t *)memory, memory_length};
+    struct northbridge bridge = {{0}, (uint8_t *)table, table_length, (uint8_t *)memory, memory_length, NULL, 0, 0};
     return bridge;
 }
 
@@ -237,19 +269,49 @@ static inline struct northbridge_request northbridge_request_of(uint64_t operati
     return request;
 }
 
-/* Serves any request. The buffer is lent as table and memory are: null lends none. */
-static inline struct northbridge_answer northbridge_ask(
-    struct northbridge *bridge, const struct northbridge_request *request, void *buffer, size_t length)
+/*
+ * From now on these leases are lent with each call. They stay the caller's, who may change them between two calls; null ends this. While
+ * leases are lent, accesses are refused (1) until the minute is given.
+ */
+static inline void northbridge_lend_leases(struct northbridge *bridge, const void *leases, size_t length)
 {
-    uint8_t told[NORTHBRIDGE_ANSWER_SIZE];
-    uint8_t none[1] = {0}; /* what is not lent is the slice of no bytes that begins here */
+    bridge->leases = (const uint8_t *)leases;
+    bridge->leases_length = length;
+    bridge->minute = NORTHBRIDGE_WEEK;
+}
+
+/*
+ * The minute of the week for the accesses that follow. It stands in the struct until it is set again, and may be set back; the library
+ * keeps none.
+ */
+static inline void northbridge_at_minute(struct northbridge *bridge, uint64_t minute)
+{
+    bridge->minute = minute;
+}
+
+/* The minute of the week of a day, Monday being 0, and a time of day. */
+static inline uint64_t northbridge_minute_of(uint64_t day, uint64_t hour, uint64_t minute)
+{
+    return 1440 * day + 60 * hour + minute;
+}
+
+/* Whether requests of an operation bring a minute and look at leases. */
+static inline int northbridge_is_leased(uint64_t operation)
+{
+    switch (operation) {
+    case NORTHBRIDGE_READ:
+    case NORTHBRIDGE_WRITE:
+    case NORTHBRIDGE_FETCH:
+    case NORTHBRIDGE_LOAD:
+    case NORTHBRIDGE_DUMP: return 1;
+    default: return 0;
+    }
+}
+
+/* An answer's bytes, by the names of their words. */
+static inline struct northbridge_answer northbridge_answer_of(const uint8_t *told)
+{
     struct northbridge_answer answer;
-    (void)northbridge_serve(
-        request->bytes, sizeof request->bytes, bridge->state, sizeof bridge->state,
-        bridge->table ? bridge->table : none, bridge->table ? bridge->table_length : 0,
-        bridge->memory ? bridge->memory : none, bridge->memory ? bridge->memory_length : 0,
-        buffer ? (uint8_t *)buffer : none, buffer ? length : 0,
-        told, sizeof told);
     answer.refusal = northbridge_word(told, NORTHBRIDGE_REFUSAL);
     answer.place = northbridge_word(told, NORTHBRIDGE_PLACE);
     answer.first = northbridge_word(told, NORTHBRIDGE_FIRST);
@@ -257,6 +319,35 @@ static inline struct northbridge_answer northbridge_ask(
     answer.dropped = northbridge_word(told, NORTHBRIDGE_DROPPED);
     answer.length = northbridge_word(told, NORTHBRIDGE_ANSWER_LENGTH);
     return answer;
+}
+
+/*
+ * Serves any request. The buffer is lent as table and memory are: null lends none. Where leases are lent, the machine's minute goes into
+ * the second word of an access, a load or a dump.
+ */
+static inline struct northbridge_answer northbridge_ask(
+    struct northbridge *bridge, const struct northbridge_request *request, void *buffer, size_t length)
+{
+    uint8_t told[NORTHBRIDGE_ANSWER_SIZE];
+    uint8_t none[1] = {0}; /* what is not lent is the slice of no bytes that begins here */
+    uint8_t *table = bridge->table ? bridge->table : none, *memory = bridge->memory ? bridge->memory : none;
+    size_t table_length = bridge->table ? bridge->table_length : 0, memory_length = bridge->memory ? bridge->memory_length : 0;
+    uint8_t *lent = buffer ? (uint8_t *)buffer : none;
+    size_t lent_length = buffer ? length : 0;
+    if (bridge->leases) {
+        struct northbridge_request timed = *request;
+        if (northbridge_is_leased(northbridge_word(timed.bytes, NORTHBRIDGE_OPERATION))) {
+            northbridge_set(&timed, NORTHBRIDGE_SECOND, bridge->minute);
+        }
+        (void)northbridge_serve_leased(
+            timed.bytes, sizeof timed.bytes, bridge->state, sizeof bridge->state, table, table_length, memory, memory_length,
+            lent, lent_length, told, sizeof told, bridge->leases, bridge->leases_length);
+    } else {
+        (void)northbridge_serve(
+            request->bytes, sizeof request->bytes, bridge->state, sizeof bridge->state, table, table_length, memory, memory_length,
+            lent, lent_length, told, sizeof told);
+    }
+    return northbridge_answer_of(told);
 }
 
 /* The root over all of memory, whose token is 0; every other entry is freed. The key is secret, the first nonce is 1 or more. */
@@ -458,6 +549,18 @@ static inline uint64_t northbridge_at(uint64_t token, uint64_t offset)
     return northbridge_token_of(fields);
 }
 
+/*
+ * Lease i of a table of leases: the token, in any encoding, is open from one minute of the week up to the minute before another. A number
+ * or a minute that has no room in 16 bits makes it a lease for which every access is refused (16).
+ */
+static inline void northbridge_put_lease(uint8_t *leases, size_t i, uint64_t token, uint64_t opening, uint64_t closing)
+{
+    struct northbridge_fields fields = northbridge_fields_of(token);
+    int fits = !(fields.number >> 16) && !(opening >> 16) && !(closing >> 16);
+    uint64_t lease = fields.number | fields.tag << 16 | opening << 32 | closing << 48;
+    northbridge_put_word(leases, i, fits ? lease : ~(uint64_t)0);
+}
+
 /* What a refusal means, in a few words. */
 static inline const char *northbridge_refusal_text(uint64_t refusal)
 {
@@ -477,6 +580,8 @@ static inline const char *northbridge_refusal_text(uint64_t refusal)
     case NORTHBRIDGE_MALFORMED: return "malformed record or ending";
     case NORTHBRIDGE_CHECKSUM: return "wrong checksum";
     case NORTHBRIDGE_NO_ROOM: return "no room for the output";
+    case NORTHBRIDGE_CLOSED: return "closed";
+    case NORTHBRIDGE_BAD_LEASE: return "bad lease";
     default: return "no refusal of the interface";
     }
 }

@@ -187,6 +187,96 @@ static void tokens(void)
     CHECK(northbridge_token_of(fields) == NORTHBRIDGE_NO_TOKEN);
 }
 
+/* A lease's bytes; what has no room becomes a lease for which every access is refused. */
+static void leases_as_bytes(void)
+{
+    static const uint8_t wanted[8] = {0x05, 0x00, 0x34, 0x12, 0x68, 0x01, 0x48, 0x03};
+    const uint64_t token = (uint64_t)0x048D0005 << 32;
+    uint8_t leases[3 * NORTHBRIDGE_LEASE_SIZE] = {0}, none[NORTHBRIDGE_LEASE_SIZE];
+    struct northbridge_fields fields = northbridge_fields_of(token);
+    memset(none, 0xff, sizeof none);
+    northbridge_put_lease(leases, 1, token, 360, 840);
+    CHECK(!memcmp(leases + 8, wanted, 8) && leases[7] == 0 && leases[16] == 0);
+    for (fields.encoding = 0; fields.encoding < 4; fields.encoding++) {
+        northbridge_put_lease(leases, 0, northbridge_token_of(fields), 360, 840);
+        CHECK(!memcmp(leases, wanted, 8));
+    }
+    northbridge_put_lease(leases, 0, northbridge_at(token, 99), 360, 840);
+    CHECK(!memcmp(leases, wanted, 8));
+    northbridge_put_lease(leases, 0, token, 65536, 840);
+    CHECK(!memcmp(leases, none, 8));
+    northbridge_put_lease(leases, 0, token, 360, (uint64_t)1 << 32);
+    CHECK(!memcmp(leases, none, 8));
+    fields.encoding = 1;
+    fields.number = 65536;
+    northbridge_put_lease(leases, 0, northbridge_token_of(fields), 360, 840);
+    CHECK(!memcmp(leases, none, 8));
+    CHECK(northbridge_minute_of(0, 0, 0) == 0 && northbridge_minute_of(6, 23, 59) == NORTHBRIDGE_WEEK - 1);
+    CHECK(NORTHBRIDGE_LEASES_MOST == 64 * NORTHBRIDGE_LEASE_SIZE);
+}
+
+/* What each of the five requests with a minute comes to, through a token. */
+static int all_come_to(struct northbridge *b, uint64_t token, uint64_t refusal)
+{
+    static const char text[] = ":00000001FF\n";
+    uint8_t buffer[64] = {0};
+    return northbridge_read(b, token, 0, buffer, 1).refusal == refusal && northbridge_write(b, token, 0, buffer, 1).refusal == refusal
+        && northbridge_fetch(b, token, 0, buffer, 1).refusal == refusal
+        && northbridge_load(b, token, 0, text, sizeof text - 1).refusal == refusal
+        && northbridge_dump(b, token, 0, buffer, sizeof buffer).refusal == refusal;
+}
+
+/* Leases that are lent, minutes that are given, and none of both. */
+static void shifts(void)
+{
+    struct northbridge b = begun();
+    uint8_t leases[65 * NORTHBRIDGE_LEASE_SIZE];
+    uint64_t card = northbridge_derive(&b, 0, 0, 8, NORTHBRIDGE_R | NORTHBRIDGE_W | NORTHBRIDGE_X, 0).first, other;
+    struct northbridge_request request = northbridge_request_of(NORTHBRIDGE_READ, card), before;
+    size_t i;
+    for (i = 0; i < 65; i++) {
+        northbridge_put_lease(leases, i, card, 360, 840);
+    }
+    CHECK(all_come_to(&b, card, 0)); /* no shifts */
+    b.minute = ~(uint64_t)0;
+    CHECK(all_come_to(&b, card, 0));
+    northbridge_lend_leases(&b, leases, NORTHBRIDGE_LEASE_SIZE);
+    CHECK(all_come_to(&b, card, NORTHBRIDGE_BAD_REQUEST)); /* no minute was given */
+    northbridge_at_minute(&b, 360);
+    CHECK(all_come_to(&b, card, 0));
+    northbridge_at_minute(&b, 839);
+    CHECK(all_come_to(&b, card, 0));
+    northbridge_at_minute(&b, 840);
+    CHECK(all_come_to(&b, card, NORTHBRIDGE_CLOSED));
+    northbridge_at_minute(&b, 359); /* set back */
+    CHECK(all_come_to(&b, card, NORTHBRIDGE_CLOSED));
+    other = northbridge_derive(&b, card, 0, 8, NORTHBRIDGE_R | NORTHBRIDGE_W | NORTHBRIDGE_X, 3).first;
+    CHECK(other != 0 && all_come_to(&b, other, 0)); /* what is derived has no lease */
+    CHECK(northbridge_clone(&b, card).refusal == 0 && northbridge_lock(&b, card, 7).refusal == 0);
+    CHECK(northbridge_unlock(&b, card, 7).refusal == 0 && northbridge_drop(&b, card).refusal == 0);
+    before = request;
+    CHECK(northbridge_ask(&b, &request, leases, 1).refusal == NORTHBRIDGE_CLOSED);
+    CHECK(!memcmp(&before, &request, sizeof request)); /* the minute went into a copy */
+    northbridge_lend_leases(&b, leases, 64 * NORTHBRIDGE_LEASE_SIZE);
+    northbridge_at_minute(&b, 400);
+    CHECK(all_come_to(&b, card, 0));
+    northbridge_put_lease(leases, 63, 0, 5, 5);
+    CHECK(all_come_to(&b, card, NORTHBRIDGE_BAD_LEASE) && all_come_to(&b, 0, NORTHBRIDGE_BAD_LEASE));
+    northbridge_lend_leases(&b, leases, 65 * NORTHBRIDGE_LEASE_SIZE);
+    northbridge_at_minute(&b, 400);
+    CHECK(all_come_to(&b, card, NORTHBRIDGE_BAD_REQUEST));
+    northbridge_lend_leases(&b, leases, NORTHBRIDGE_LEASE_SIZE - 1);
+    northbridge_at_minute(&b, 400);
+    CHECK(all_come_to(&b, card, NORTHBRIDGE_BAD_REQUEST) && northbridge_clone(&b, card).refusal == NORTHBRIDGE_BAD_REQUEST);
+    northbridge_lend_leases(&b, leases, 0); /* shifts, in which nobody is bound */
+    northbridge_at_minute(&b, 10079);
+    CHECK(all_come_to(&b, card, 0));
+    northbridge_at_minute(&b, NORTHBRIDGE_WEEK);
+    CHECK(all_come_to(&b, card, NORTHBRIDGE_BAD_REQUEST));
+    northbridge_lend_leases(&b, NULL, 8); /* no shifts again */
+    CHECK(all_come_to(&b, card, 0));
+}
+
 /* The word for no token is refused wherever a token is named; so is what is not lent. */
 static void refused(void)
 {
@@ -214,7 +304,7 @@ static void refused(void)
 static void texts(void)
 {
     uint64_t refusal;
-    for (refusal = 0; refusal <= NORTHBRIDGE_NO_ROOM + 1; refusal++) {
+    for (refusal = 0; refusal <= NORTHBRIDGE_BAD_LEASE + 1; refusal++) {
         printf("%d %s\n", (int)refusal, northbridge_refusal_text(refusal));
     }
     printf("version %d\n", NORTHBRIDGE_VERSION);
@@ -227,6 +317,8 @@ int main(void)
     texts_of_segments();
     free_totals();
     tokens();
+    leases_as_bytes();
+    shifts();
     refused();
     texts();
     return failures != 0;

@@ -1,4 +1,4 @@
-/* The plain declarations, which C89 takes too: paper 01's first case by bytes alone, and null pointers with length 0. */
+/* The plain declarations, which C89 takes too: paper 01's first case by bytes alone, null pointers with length 0, and leases. */
 #include "northbridge.h"
 
 #include <stdio.h>
@@ -32,6 +32,14 @@ static void ask(unsigned operation, unsigned task)
     bytes[REQUEST][8 * NORTHBRIDGE_TASK] = (uint8_t)task;
 }
 
+/* The same with leases of so many bytes; none are null. */
+static uint64_t serve_leased(const uint8_t *leases, size_t length)
+{
+    return northbridge_serve_leased(
+        bytes[0], sizes[0], bytes[1], sizes[1], bytes[2], sizes[2], bytes[3], sizes[3], bytes[4], sizes[4], bytes[5], sizes[5], leases,
+        length);
+}
+
 static int fail(const char *what, unsigned operation, unsigned nulls)
 {
     printf("header/plain.c: %s, operation %u, null slices %u\n", what, operation, nulls);
@@ -41,6 +49,7 @@ static int fail(const char *what, unsigned operation, unsigned nulls)
 int main(void)
 {
     static uint8_t before[SLICES][65536];
+    static const uint8_t early[8] = {0, 0, 0, 0, 1, 0, 2, 0}, equal[8] = {0, 0, 0, 0, 1, 0, 1, 0};
     const unsigned needed = 1 << REQUEST | 1 << STATE | 1 << TABLE | 1 << MEMORY | 1 << ANSWER;
     unsigned operation, nulls;
     ask(NORTHBRIDGE_RESET, 1);
@@ -68,5 +77,21 @@ int main(void)
     if (serve(1 << BUFFER) != NORTHBRIDGE_NO_ROOM) return fail("not refusal 14", NORTHBRIDGE_DUMP, 1 << BUFFER);
     ask(NORTHBRIDGE_LOCK, 1);
     if (serve(1 << BUFFER) != NORTHBRIDGE_GRANTED) return fail("not granted", NORTHBRIDGE_LOCK, 1 << BUFFER);
+    /* Leases: none, one of the root's from minute 1 up to minute 2, a bad one, and a part of one. A lock looks at their length alone. */
+    for (operation = NORTHBRIDGE_READ; operation <= NORTHBRIDGE_FETCH; operation++) {
+        ask(operation, 1);
+        if (serve_leased(NULL, 0) != NORTHBRIDGE_GRANTED) return fail("not granted without leases", operation, 0);
+        if (serve_leased(early, 8) != NORTHBRIDGE_CLOSED) return fail("not refusal 15", operation, 0);
+        if (serve_leased(equal, 8) != NORTHBRIDGE_BAD_LEASE) return fail("not refusal 16", operation, 0);
+        if (serve_leased(early, 7) != NORTHBRIDGE_BAD_REQUEST) return fail("not refusal 1", operation, 0);
+        bytes[REQUEST][8 * NORTHBRIDGE_SECOND] = 1;
+        if (serve_leased(early, 8) != NORTHBRIDGE_GRANTED) return fail("not granted at minute 1", operation, 0);
+        bytes[REQUEST][8 * NORTHBRIDGE_SECOND + 7] = 1;
+        if (serve_leased(NULL, 0) != NORTHBRIDGE_BAD_REQUEST) return fail("a minute beyond the week", operation, 0);
+        if (serve(0) != NORTHBRIDGE_GRANTED) return fail("a minute was looked at", operation, 0);
+    }
+    ask(NORTHBRIDGE_LOCK, 1);
+    if (serve_leased(equal, 8) != NORTHBRIDGE_GRANTED) return fail("not granted", NORTHBRIDGE_LOCK, 0);
+    if (serve_leased(equal, 7) != NORTHBRIDGE_BAD_REQUEST) return fail("not refusal 1", NORTHBRIDGE_LOCK, 0);
     return 0;
 }

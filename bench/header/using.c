@@ -312,6 +312,40 @@ static void images(void)
     CHECK(northbridge_load(&b, card, OTHER, crlf, sizeof crlf - 1).refusal == NORTHBRIDGE_MALFORMED); /* 12 before 5 */
 }
 
+/* A card under leases: by number and tag, for the five requests that bring a minute, and nothing derived from it. */
+static void shifts(void)
+{
+    struct northbridge b = begun(ENTRIES);
+    uint8_t leases[2 * NORTHBRIDGE_LEASE_SIZE];
+    uint64_t card = northbridge_derive(&b, 0, 0, 100, ALL, 0).first, child = northbridge_derive(&b, card, 0, 100, ALL, 2).first, day;
+    northbridge_put_lease(leases, 0, card, northbridge_minute_of(0, 6, 0), northbridge_minute_of(0, 14, 0));
+    northbridge_put_lease(leases, 1, card, northbridge_minute_of(6, 22, 0), northbridge_minute_of(0, 2, 0)); /* over the week's end */
+    CHECK(read_one(&b, card, 0) == 0); /* without leases there are no shifts */
+    northbridge_lend_leases(&b, leases, sizeof leases);
+    CHECK(read_one(&b, card, 0) == NORTHBRIDGE_BAD_REQUEST && read_one(&b, 0, 0) == NORTHBRIDGE_BAD_REQUEST); /* no minute yet */
+    for (day = 0; day < 7; day++) {
+        northbridge_at_minute(&b, northbridge_minute_of(day, 13, 59));
+        CHECK(read_one(&b, card, 0) == (day == 0 ? 0 : NORTHBRIDGE_CLOSED));
+        northbridge_at_minute(&b, northbridge_minute_of(day, 14, 0));
+        CHECK(read_one(&b, card, 0) == NORTHBRIDGE_CLOSED && read_one(&b, child, 0) == 0 && read_one(&b, 0, 0) == 0);
+        northbridge_at_minute(&b, northbridge_minute_of(day, 23, 0));
+        CHECK(read_one(&b, card, 0) == (day == 6 ? 0 : NORTHBRIDGE_CLOSED));
+    }
+    northbridge_at_minute(&b, northbridge_minute_of(0, 1, 59));
+    CHECK(read_one(&b, card, 0) == 0);
+    northbridge_at_minute(&b, northbridge_minute_of(0, 2, 0));
+    CHECK(read_one(&b, card, 0) == NORTHBRIDGE_CLOSED && read_one(&b, card, HOLDER) == NORTHBRIDGE_CLOSED);
+    CHECK(northbridge_lock(&b, card, HOLDER).refusal == 0 && northbridge_clone(&b, card).refusal == 0); /* no accesses */
+    CHECK(read_one(&b, card, OTHER) == NORTHBRIDGE_LOCKED && read_one(&b, card, HOLDER) == NORTHBRIDGE_CLOSED);
+    CHECK(northbridge_unlock(&b, card, HOLDER).refusal == 0);
+    northbridge_put_lease(leases, 1, 0, 5, 5); /* bad, whoever it is for: nobody gets an access */
+    CHECK(read_one(&b, 0, 0) == NORTHBRIDGE_BAD_LEASE && read_one(&b, child, 0) == NORTHBRIDGE_BAD_LEASE);
+    northbridge_put_lease(leases, 1, 0, 5, NORTHBRIDGE_WEEK);
+    CHECK(read_one(&b, 0, 0) == NORTHBRIDGE_BAD_LEASE);
+    northbridge_lend_leases(&b, NULL, 0);
+    CHECK(read_one(&b, card, 0) == 0);
+}
+
 /* Children up to 1,023 in a line. */
 static void longest_line(void)
 {
@@ -351,6 +385,7 @@ int main(void)
     full_table();
     free_totals();
     images();
+    shifts();
     longest_line();
     nonces();
     return failures != 0;

@@ -1,4 +1,4 @@
-/* Which words each inline function asks with, what it lends, and how it reads an answer: here stands another northbridge_serve. */
+/* Which words each inline function asks with, what it lends, and how it reads an answer: here stand other functions of the library. */
 #include "northbridge.h"
 
 #include <stdio.h>
@@ -6,11 +6,12 @@
 
 enum { WORDS = NORTHBRIDGE_REQUEST_SIZE / 8 };
 
-static int failures;
+static int failures, by_shifts;
 static uint8_t table[64], memory[128], buffer[12];
 static uint64_t asked[WORDS];
-static const uint8_t *lent;
-static size_t lent_length;
+static const uint8_t *lent, *leased;
+static size_t lent_length, leased_length;
+static const uint8_t leases[16] = {9};
 
 uint64_t northbridge_serve(
     const uint8_t *request, size_t request_length, uint8_t *state, size_t state_length, uint8_t *its_table, size_t table_length,
@@ -35,7 +36,22 @@ uint64_t northbridge_serve(
     state[0]++;
     lent = its_buffer;
     lent_length = buffer_length;
+    leased = NULL;
+    leased_length = 0;
     return 0;
+}
+
+uint64_t northbridge_serve_leased(
+    const uint8_t *request, size_t request_length, uint8_t *state, size_t state_length, uint8_t *its_table, size_t table_length,
+    uint8_t *its_memory, size_t memory_length, uint8_t *its_buffer, size_t buffer_length, uint8_t *answer, size_t answer_length,
+    const uint8_t *its_leases, size_t leases_length)
+{
+    uint64_t refusal = northbridge_serve(
+        request, request_length, state, state_length, its_table, table_length, its_memory, memory_length, its_buffer, buffer_length, answer,
+        answer_length);
+    leased = its_leases;
+    leased_length = leases_length;
+    return refusal;
 }
 
 /* The request had these words after its operation, and no buffer, or ours. */
@@ -46,6 +62,7 @@ static void check(
     right = right && answer.refusal == 0x0807060504030201 && answer.place == 0x100f0e0d0c0b0a09;
     right = right && answer.first == 0x1817161514131211 && answer.second == 0x201f1e1d1c1b1a19;
     right = right && answer.dropped == 0x2827262524232221 && answer.length == 0x302f2e2d2c2b2a29;
+    right = right && (by_shifts ? leased == leases && leased_length == sizeof leases : leased == NULL);
     right = right && (with_buffer ? lent == buffer && lent_length == sizeof buffer : lent != NULL && lent_length == 0);
     if (!right) {
         printf("header/words.c: %s\n", what);
@@ -57,12 +74,13 @@ int main(void)
 {
     /* Each argument has a value of its own: that of its word, with all bytes in use. */
     const uint64_t key0 = 0xf101010101010101, key1 = 0xf202020202020202, nonce = 0xf303030303030303;
-    const uint64_t token = key0, second = key1, task = nonce;
+    const uint64_t token = key0, second = key1, task = nonce, minute = 0xf808080808080808;
     const uint64_t length = 0xf404040404040404, user = 0xf505050505050505, rights = 0xf606060606060606, code = 0xf707070707070707;
     const uint64_t reset[] = {key0, key1, nonce, 0, 0, 0, 0}, by_task[] = {token, 0, task, 0, 0, 0, 0};
     const uint64_t create[] = {token, 0, task, length, user, rights, code}, merge[] = {token, second, task, 0, 0, 0, code};
     const uint64_t derive[] = {token, second, 0, length, 0, rights, code};
     const uint64_t encoded[] = {token, 0, 0, 0, 0, 0, code}, alone[] = {token, 0, 0, 0, 0, 0, 0};
+    const uint64_t at_minute[] = {token, minute, task, 0, 0, 0, 0};
     struct northbridge b = northbridge_over(table, sizeof table, memory, sizeof memory);
     size_t i;
     check(northbridge_reset(&b, key0, key1, nonce), 0, reset, 0, "reset");
@@ -80,7 +98,25 @@ int main(void)
     check(northbridge_revoke(&b, token, code), 12, encoded, 0, "revoke");
     check(northbridge_load(&b, token, task, buffer, sizeof buffer), 13, by_task, 1, "load");
     check(northbridge_dump(&b, token, task, buffer, sizeof buffer), 14, by_task, 1, "dump");
-    if (b.state[0] != 15) {
+    by_shifts = 1; /* the minute stands in the five that bring one; all others are as they were */
+    northbridge_lend_leases(&b, leases, sizeof leases);
+    northbridge_at_minute(&b, minute);
+    check(northbridge_reset(&b, key0, key1, nonce), 0, reset, 0, "reset, with leases");
+    check(northbridge_read(&b, token, task, buffer, sizeof buffer), 1, at_minute, 1, "read at a minute");
+    check(northbridge_write(&b, token, task, buffer, sizeof buffer), 2, at_minute, 1, "write at a minute");
+    check(northbridge_fetch(&b, token, task, buffer, sizeof buffer), 3, at_minute, 1, "fetch at a minute");
+    check(northbridge_create(&b, token, task, length, user, rights, code), 4, create, 0, "create, with leases");
+    check(northbridge_merge(&b, token, second, task, code), 5, merge, 0, "merge, with leases");
+    check(northbridge_derive(&b, token, second, length, rights, code), 6, derive, 0, "derive, with leases");
+    check(northbridge_execute_only(&b, token, code), 7, encoded, 0, "execute-only, with leases");
+    check(northbridge_clone(&b, token), 8, alone, 0, "clone, with leases");
+    check(northbridge_drop(&b, token), 9, alone, 0, "drop, with leases");
+    check(northbridge_lock(&b, token, task), 10, by_task, 0, "lock, with leases");
+    check(northbridge_unlock(&b, token, task), 11, by_task, 0, "unlock, with leases");
+    check(northbridge_revoke(&b, token, code), 12, encoded, 0, "revoke, with leases");
+    check(northbridge_load(&b, token, task, buffer, sizeof buffer), 13, at_minute, 1, "load at a minute");
+    check(northbridge_dump(&b, token, task, buffer, sizeof buffer), 14, at_minute, 1, "dump at a minute");
+    if (b.state[0] != 30) {
         printf("header/words.c: the state is not the one that was lent\n");
         failures++;
     }

@@ -1,6 +1,6 @@
 /*
  * A hook station's card writes a record of twelve bytes, the weigher's task holds it, and another card tries to read it; then a card's
- * firmware is loaded, and a batch of windows is given. From the repository's root:
+ * firmware is loaded, a batch of windows is given, and a card is bound to its shift. From the repository's root:
  *
  *     ./build-library
  *     cc -Iinclude examples/c/example.c -Ltarget/staticlib -lnorthbridge -o target/example && target/example
@@ -68,5 +68,19 @@ int main(void)
         said("station 5 writes", northbridge_write(&bridge, window[5], 0, record, sizeof record));
     }
     printf("%" PRIu64 " windows are given, %" PRIu64 " numbers are free\n", given, northbridge_free_total(&bridge));
+
+    /* Station 5 works from Monday to Friday, 06:00 to 14:00. What the cleaning crew does with its card bounces. */
+    uint8_t leases[5 * NORTHBRIDGE_LEASE_SIZE];
+    for (uint64_t day = 0; day < 5; day++) {
+        northbridge_put_lease(leases, day, window[5], northbridge_minute_of(day, 6, 0), northbridge_minute_of(day, 14, 0));
+    }
+    northbridge_lend_leases(&bridge, leases, sizeof leases);
+    northbridge_at_minute(&bridge, northbridge_minute_of(1, 13, 59));
+    said("station 5 writes on Tuesday at 13:59", northbridge_write(&bridge, window[5], 0, record, sizeof record));
+    northbridge_at_minute(&bridge, northbridge_minute_of(1, 14, 0));
+    said("at 14:00", northbridge_write(&bridge, window[5], 0, record, sizeof record));
+    said("station 6 at 14:00, which has no lease", northbridge_write(&bridge, window[6], 0, record, sizeof record));
+    northbridge_at_minute(&bridge, northbridge_minute_of(5, 9, 0));
+    said("station 5 on Saturday", northbridge_write(&bridge, window[5], 0, record, sizeof record));
     return seen[0];
 }

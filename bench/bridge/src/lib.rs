@@ -50,12 +50,40 @@
 //! # Ok::<(), Refusal>(())
 //! ```
 //!
+//! Where cards run by shifts, accesses are asked during one: at a minute of the week, under leases.
+//! Without one there are no shifts, and every minute is open:
+//!
+//! ```
+//! # use bridge::{minute_of, Lease, Northbridge, Refusal, Shift, Task, Token};
+//! # let (mut table, mut memory) = ([0; 4 * 32], [0; 4]);
+//! # let mut bridge = Northbridge::reset([1, 2], 1, &mut table, &mut memory)?;
+//! // Monday from 06:00 to 14:00.
+//! let early = Lease::of(Token::ROOT, 360, 840).expect("a number of the table");
+//! let leases = [early.to_bytes()];
+//! let at = |minute| Shift { minute, leases: &leases };
+//! bridge.during(at(360)).write(Token::ROOT, Task::NONE, &[1, 2])?;
+//! let cleaning = bridge.during(at(840)).write(Token::ROOT, Task::NONE, &[3, 4]);
+//! assert_eq!(cleaning, Err(Refusal::Closed));
+//! let tuesday = minute_of(1, 8, 0);
+//! assert_eq!(bridge.during(at(tuesday)).load(Token::ROOT, Task::NONE, b""), Err(Refusal::Malformed));
+//! # Ok::<(), Refusal>(())
+//! ```
+//!
 //! An access is no request of [`Northbridge::ask`], since it needs a buffer:
 //!
 //! ```compile_fail,E0599
 //! # use bridge::{Northbridge, Request, Task, Token};
 //! # fn asked(bridge: &mut Northbridge) {
 //! bridge.ask(&Request::Read { token: Token::ROOT, task: Task::NONE });
+//! # }
+//! ```
+//!
+//! What is no access has no shift:
+//!
+//! ```compile_fail,E0599
+//! # use bridge::{Northbridge, Request, Shift, Token};
+//! # fn asked(bridge: &mut Northbridge, shift: Shift) {
+//! bridge.during(shift).ask(&Request::Clone { token: Token::ROOT });
 //! # }
 //! ```
 //!
@@ -75,222 +103,31 @@
 //! # }
 //! ```
 
-use std::sync::OnceLock;
-
 mod answer;
 mod bytes;
+mod call;
+mod lease;
+mod northbridge;
 mod operation;
 mod refusal;
 mod request;
 mod rights;
+mod serve;
 mod state;
 mod token;
 mod words;
 
 pub use answer::{Granted, Reply};
 pub use bytes::{put_words, words_of};
+pub use call::{call, call_leased};
+pub use lease::{minute_of, Lease, Shift, LEASES_BYTES, LEASE_BYTES, WEEK};
+pub use northbridge::{During, Northbridge};
 pub use operation::{text_length, Buffer, Operation, ACCESS_BYTES, TEXT_BYTES};
 pub use refusal::{refusal_words, Check, Place, Refusal};
 pub use request::Request;
 pub use rights::{Permissions, Task};
+pub use serve::{is_plain, serve, serve_leased, serve_lent, Lent};
+pub use serve::{ANSWER_BYTES, REQUEST_BYTES, STATE_BYTES, VERSION};
 pub use state::State;
 pub use token::{Encoding, Token, TooFar};
 pub use words::{Argument, Words};
-
-/// The interface's version, which include/northbridge.h has too.
-pub const VERSION: u64 = 4;
-
-/// How many bytes the interface's request, state and answer have.
-pub const REQUEST_BYTES: usize = 8 * Words::COUNT;
-pub const STATE_BYTES: usize = 8 * State::WORDS;
-pub const ANSWER_BYTES: usize = 8 * Reply::WORDS;
-
-/// A northbridge over a table and a memory that are lent to it.
-pub struct Northbridge<'a> {
-    pub state: State,
-    pub table: &'a mut [u8],
-    pub memory: &'a mut [u8],
-}
-
-impl<'a> Northbridge<'a> {
-    /// A northbridge after a granted reset.
-    pub fn reset(
-        key: [u64; 2],
-        first_nonce: u64,
-        table: &'a mut [u8],
-        memory: &'a mut [u8],
-    ) -> Result<Northbridge<'a>, Refusal> {
-        let mut bridge = Northbridge { state: State::default(), table, memory };
-        bridge.ask(&Request::Reset { key, first_nonce })?;
-        Ok(bridge)
-    }
-
-    /// How many numbers can still be given. It stands in the state: no request is asked, and the table
-    /// is not looked at.
-    pub fn free_total(&self) -> u64 {
-        self.state.total
-    }
-
-    /// Serves a request that brings no buffer.
-    pub fn ask(&mut self, request: &Request) -> Result<Granted, Refusal> {
-        self.served(&request.words(), &mut [])
-    }
-
-    /// The bytes at an address go to the buffer.
-    pub fn read(&mut self, address: Token, task: Task, buffer: &mut [u8]) -> Result<(), Refusal> {
-        self.served(&Words::access(Operation::Read, address, task), buffer).map(|_| ())
-    }
-
-    /// As read, for instructions.
-    pub fn fetch(&mut self, address: Token, task: Task, buffer: &mut [u8]) -> Result<(), Refusal> {
-        self.served(&Words::access(Operation::Fetch, address, task), buffer).map(|_| ())
-    }
-
-    /// The bytes go to an address.
-    pub fn write(&mut self, address: Token, task: Task, bytes: &[u8]) -> Result<(), Refusal> {
-        self.brought(&Words::access(Operation::Write, address, task), bytes)
-    }
-
-    /// What HEX text says is written. The token has no offset.
-    pub fn load(&mut self, token: Token, task: Task, text: &[u8]) -> Result<(), Refusal> {
-        self.brought(&Words::access(Operation::Load, token, task), text)
-    }
-
-    /// All bytes that a token names go to the buffer's front as HEX text, whose length is told. The
-    /// token has no offset.
-    pub fn dump(&mut self, token: Token, task: Task, buffer: &mut [u8]) -> Result<usize, Refusal> {
-        let granted = self.served(&Words::access(Operation::Dump, token, task), buffer)?;
-        Ok(usize::try_from(granted.length).expect("a length inside the buffer"))
-    }
-
-    /// Serves a request that only reads its buffer: a write or a load.
-    fn brought(&mut self, request: &Words, bytes: &[u8]) -> Result<(), Refusal> {
-        let Northbridge { state, table, memory } = self;
-        let reply = serve_with(request, state, |request, state, answer| {
-            // The exclusive slices do not overlap the bytes, and these requests only read them:
-            // tests/typed.rs lends them bytes that cannot be written.
-            let brought = (bytes.as_ptr().cast_mut(), bytes.len());
-            unsafe { call_with(request, state, table, memory, brought, answer) }
-        });
-        typed(&reply).map(|_| ())
-    }
-
-    fn served(&mut self, request: &Words, buffer: &mut [u8]) -> Result<Granted, Refusal> {
-        typed(&serve(request, &mut self.state, self.table, self.memory, buffer))
-    }
-}
-
-fn typed(reply: &Reply) -> Result<Granted, Refusal> {
-    reply.typed().expect("an answer of the interface")
-}
-
-/// Serves one request, given as words: any words have a defined answer.
-pub fn serve(
-    request: &Words,
-    state: &mut State,
-    table: &mut [u8],
-    memory: &mut [u8],
-    buffer: &mut [u8],
-) -> Reply {
-    serve_with(request, state, |request, state, answer| {
-        call(request, state, table, memory, buffer, answer)
-    })
-}
-
-/// Request and state become bytes for a call, and what it leaves is taken from them.
-#[inline(always)]
-fn serve_with(
-    request: &Words,
-    state: &mut State,
-    call: impl FnOnce(&[u8], &mut [u8], &mut [u8]) -> u64,
-) -> Reply {
-    let (mut asked, mut lent) = ([0; REQUEST_BYTES], [0; STATE_BYTES]);
-    put_words(&mut asked, &request.in_order());
-    put_words(&mut lent, &state.in_order());
-    let mut answer = [0; ANSWER_BYTES];
-    let returned = call(&asked, &mut lent, &mut answer);
-    *state = State::from_order(words_of(&lent));
-    let reply = Reply::from_order(words_of(&answer));
-    // A library of another version leaves an answer of another length as it was, or refuses all.
-    let of_version = reply.refusal == returned && (returned != 1 || grants_a_reset());
-    assert!(of_version, "expected a library of the interface's version {VERSION}");
-    reply
-}
-
-/// Whether the library takes slices of these lengths, found out once.
-#[cold]
-fn grants_a_reset() -> bool {
-    static GRANTS: OnceLock<bool> = OnceLock::new();
-    *GRANTS.get_or_init(|| {
-        let mut request = [0; REQUEST_BYTES];
-        let reset = Request::Reset { key: [0, 0], first_nonce: 1 };
-        put_words(&mut request, &reset.words().in_order());
-        let (mut state, mut answer) = ([0; STATE_BYTES], [0; ANSWER_BYTES]);
-        call(&request, &mut state, &mut [0; 2 * 32], &mut [0], &mut [], &mut answer) == 0
-    })
-}
-
-/// The interface's function over slices of any lengths. It returns the refusal.
-#[inline(always)]
-pub fn call(
-    request: &[u8],
-    state: &mut [u8],
-    table: &mut [u8],
-    memory: &mut [u8],
-    buffer: &mut [u8],
-    answer: &mut [u8],
-) -> u64 {
-    let buffer = (buffer.as_mut_ptr(), buffer.len());
-    // The buffer is an exclusive slice.
-    unsafe { call_with(request, state, table, memory, buffer, answer) }
-}
-
-/// The same, with the buffer as a pointer and a length.
-///
-/// # Safety
-/// The buffer is a slice that overlaps none of the others; it can be written, unless the request is
-/// a write or a load; and nothing else writes it meanwhile.
-#[inline(always)]
-unsafe fn call_with(
-    request: &[u8],
-    state: &mut [u8],
-    table: &mut [u8],
-    memory: &mut [u8],
-    (buffer, buffer_length): (*mut u8, usize),
-    answer: &mut [u8],
-) -> u64 {
-    // Each pointer and length is that of a slice; the slices are exclusive, so none overlap.
-    unsafe {
-        northbridge_serve(
-            request.as_ptr(),
-            request.len(),
-            state.as_mut_ptr(),
-            state.len(),
-            table.as_mut_ptr(),
-            table.len(),
-            memory.as_mut_ptr(),
-            memory.len(),
-            buffer,
-            buffer_length,
-            answer.as_mut_ptr(),
-            answer.len(),
-        )
-    }
-}
-
-extern "C" {
-    fn northbridge_serve(
-        request: *const u8,
-        request_length: usize,
-        state: *mut u8,
-        state_length: usize,
-        table: *mut u8,
-        table_length: usize,
-        memory: *mut u8,
-        memory_length: usize,
-        buffer: *mut u8,
-        buffer_length: usize,
-        answer: *mut u8,
-        answer_length: usize,
-    ) -> u64;
-}

@@ -92,8 +92,8 @@ struct Facts {
     tokens: &'static [&'static str],
     /// Whether a granted answer carries a number.
     number: bool,
-    /// The checks that it can stop at, in their order: that of 01's table, and of paper 2 of 02 for
-    /// loads and dumps. Not possible are:
+    /// The checks that it can stop at, in their order: that of 01's table, of paper 2 of 02 for loads
+    /// and dumps, and of paper 4 for what brings a minute. Not possible are:
     /// - Dead of a drop: "dead; drop skips this";
     /// - Lock, but for "access, create, merge, lock, unlock", and loads and dumps, which "use the
     ///   access checks";
@@ -106,6 +106,7 @@ struct Facts {
     /// - Numbers, but for "create, derive, execute-only";
     /// - Nonces, but for those that issue: create, merge, derive, execute-only, revoke;
     /// - Malformed and Checksum, but for loads, and Room, but for dumps;
+    /// - Closed and Lease, but for accesses, loads and dumps: "both accesses only";
     /// - and a reset looks at the sizes and the first nonce alone.
     checks: &'static [Check],
 }
@@ -117,7 +118,7 @@ const fn of(operation: Operation) -> Facts {
 }
 
 /// What an access can stop at.
-const ACCESS: &[Check] = &[Request, Entry, IllFormed, Dead, Lock, Right, Bounds];
+const ACCESS: &[Check] = &[Request, Lease, Entry, IllFormed, Dead, Lock, Closed, Right, Bounds];
 
 const ROWS: &[Facts] = &[
     Facts {
@@ -128,21 +129,21 @@ const ROWS: &[Facts] = &[
     },
     Facts {
         name: "read",
-        arguments: &[Address, Task],
+        arguments: &[Address, Minute, Task],
         buffer: Buffer::Filled,
         checks: ACCESS,
         ..of(Operation::Read)
     },
     Facts {
         name: "write",
-        arguments: &[Address, Task],
+        arguments: &[Address, Minute, Task],
         buffer: Buffer::Brought,
         checks: ACCESS,
         ..of(Operation::Write)
     },
     Facts {
         name: "fetch",
-        arguments: &[Address, Task],
+        arguments: &[Address, Minute, Task],
         buffer: Buffer::Filled,
         checks: ACCESS,
         ..of(Operation::Fetch)
@@ -211,16 +212,19 @@ const ROWS: &[Facts] = &[
     },
     Facts {
         name: "load",
-        arguments: &[Token, Task],
+        arguments: &[Token, Minute, Task],
         buffer: Buffer::Text,
-        checks: &[Request, Malformed, Checksum, Entry, IllFormed, Dead, Lock, Right, Bounds],
+        checks: &[
+            Request, Malformed, Checksum, Lease, Entry, IllFormed, Dead, Lock, Closed, Right,
+            Bounds,
+        ],
         ..of(Operation::Load)
     },
     Facts {
         name: "dump",
-        arguments: &[Token, Task],
+        arguments: &[Token, Minute, Task],
         buffer: Buffer::Front,
-        checks: &[Request, Entry, IllFormed, Dead, Lock, Right, Room],
+        checks: &[Request, Lease, Entry, IllFormed, Dead, Lock, Closed, Right, Room],
         ..of(Operation::Dump)
     },
 ];
@@ -276,6 +280,11 @@ impl Operation {
     /// Whether it asks for bytes at an address.
     pub fn is_access(self) -> bool {
         self.takes(Address)
+    }
+
+    /// Whether it brings a minute and looks at leases: an access, a load or a dump.
+    pub fn is_leased(self) -> bool {
+        self.takes(Minute)
     }
 
     /// Whether it names an entry by a token.

@@ -28,6 +28,8 @@ pub enum Refusal {
     Malformed,
     Checksum,
     Room,
+    Closed,
+    Lease,
 }
 
 /// The checks of 01's table "Where a request stops" and of the papers of 02, by the numbers of their
@@ -52,6 +54,10 @@ pub enum Check {
     Checksum = 13,
     /// The output buffer, or the most that is written.
     Room = 14,
+    /// The token's leases, at the minute.
+    Closed = 15,
+    /// The minutes of each lease that is lent.
+    Lease = 16,
 }
 
 /// A refusal alone, or one that tells a place.
@@ -78,6 +84,8 @@ const ROWS: &[(Check, &str, Form)] = &[
     (Check::Malformed, "malformed record or ending", Plain(Refusal::Malformed)),
     (Check::Checksum, "wrong checksum", Plain(Refusal::Checksum)),
     (Check::Room, "no room for the output", Plain(Refusal::Room)),
+    (Check::Closed, "closed", Plain(Refusal::Closed)),
+    (Check::Lease, "bad lease", Plain(Refusal::Lease)),
 ];
 
 /// The rows stand by rising numbers; some may not be given yet.

@@ -108,7 +108,7 @@ impl Request {
 
 impl Words {
     /// The words of a request with a buffer: an access in one of the three ways, and where it begins;
-    /// a load or a dump, whose token has no offset.
+    /// a load or a dump, whose token has no offset. Its minute is 0.
     pub fn access(way: Operation, address: Token, task: Task) -> Words {
         Words { operation: way as u64, token: address.0, task: task.0, ..Words::default() }
     }

@@ -6,7 +6,7 @@ pub struct Words {
     pub operation: u64,
     /// The token; for a reset the first key word.
     pub token: u64,
-    /// A merge's second token, a derive's offset; for a reset the second key word.
+    /// A merge's second token, a derive's offset, an access's minute; for a reset the second key word.
     pub second: u64,
     /// The task; for a reset the first nonce.
     pub task: u64,
@@ -63,6 +63,8 @@ pub enum Argument {
     /// Two words.
     Key,
     Offset,
+    /// The minute of the week at which an access, a load or a dump is asked.
+    Minute,
     /// The task that asks; 0 for none.
     Task,
     /// The task that a lock is for, which is not 0.
@@ -81,6 +83,7 @@ impl Argument {
         Argument::SecondToken,
         Argument::Key,
         Argument::Offset,
+        Argument::Minute,
         Argument::Task,
         Argument::Holder,
         Argument::FirstNonce,
@@ -95,7 +98,7 @@ impl Argument {
         match self {
             Argument::Address | Argument::Token => &[Words::TOKEN],
             Argument::Key => &[Words::TOKEN, Words::SECOND],
-            Argument::SecondToken | Argument::Offset => &[Words::SECOND],
+            Argument::SecondToken | Argument::Offset | Argument::Minute => &[Words::SECOND],
             Argument::Task | Argument::Holder | Argument::FirstNonce => &[3],
             Argument::Length => &[4],
             Argument::User => &[5],

@@ -53,7 +53,10 @@ const TOOL: &str = r#"#!/bin/sh
 command=$1
 shift
 if [ "$command" = version ]; then exit 0; fi
-if [ "$command" = staticlib ]; then mkdir -p target/staticlib && echo archive >target/staticlib/libnorthbridge.a; fi
+if [ "$command" = staticlib ]; then
+    mkdir -p target/staticlib
+    (cd target/staticlib && echo "$1" >"$1.o" && rm -f "lib$1.a" && ar rc "lib$1.a" "$1.o" && rm "$1.o")
+fi
 for name in "$@"; do
     echo "fn $name::one: proved"
     if [ "$command $name" = "check ${FAIL:-}" ]; then
@@ -66,7 +69,7 @@ done
 echo "rt: bits proved (unchanged since it was last proved)"
 "#;
 
-/// A repository of four crates, of which northbridge does not stand on the second.
+/// A repository of five crates: northbridge and leased do not stand on the second.
 fn repository(name: &str) -> PathBuf {
     let root = folder(name);
     fs::create_dir_all(root.join("bin")).expect("a new folder");
@@ -74,8 +77,11 @@ fn repository(name: &str) -> PathBuf {
     fs::write(root.join("crates/bits/src/lib.rt"), "").expect("a crate");
     let script = Path::new(env!("CARGO_MANIFEST_DIR")).join("../../build-library");
     fs::copy(script, root.join("build-library")).expect("a copy of build-library");
-    fs::write(root.join("crates.txt"), "bits:\nuses: bits\nlocks: bits\nnorthbridge: locks\n")
-        .expect("a list of crates");
+    fs::write(
+        root.join("crates.txt"),
+        "bits:\nuses: bits\nlocks: bits\nnorthbridge: locks\nleased: locks\n",
+    )
+    .expect("a list of crates");
     let tool = root.join("bin/rt");
     fs::write(&tool, TOOL).expect("a tool");
     fs::set_permissions(&tool, fs::Permissions::from_mode(0o755)).expect("a tool to run");
@@ -96,8 +102,8 @@ fn build_library(root: &Path, fails: &str) -> (bool, String, String) {
 fn each_crate_is_told_when_it_is_proved() {
     let _alone = ALONE.lock();
     let root = repository("told");
-    let proves = "build-library: proves bits locks northbridge\n\
-                  rt: check locks\nrt: staticlib northbridge\n";
+    let proves = "build-library: proves bits locks northbridge leased\n\
+                  rt: check locks\nrt: staticlib northbridge\nrt: staticlib leased\n";
     let built =
         "build-library: target/staticlib/libnorthbridge.a is proved and built from these crates\n";
     let says = |expected: &str| {

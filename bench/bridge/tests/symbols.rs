@@ -21,8 +21,8 @@ fn it_calls_memset_and_memmove_alone() {
 }
 
 #[test]
-fn it_offers_one_function() {
+fn it_offers_two_functions() {
     let offered = symbols("--extern-only");
     let offered: Vec<_> = offered.iter().filter(|name| !name.starts_with("mem")).collect();
-    assert_eq!(offered, ["northbridge_serve"]);
+    assert_eq!(offered, ["northbridge_serve", "northbridge_serve_leased"]);
 }

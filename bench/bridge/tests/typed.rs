@@ -209,11 +209,12 @@ fn each_request_has_its_words() {
     let (token, task, permissions, encoding) =
         (Token(1), Task(3), Permissions::R | Permissions::W, Encoding::E3);
     let (second, offset, length, user) = (Token(2), 2, 4, 5);
+    let access = |way| Words { second: 2, ..Words::access(way, token, task) };
     let all = [
         Request::Reset { key: [1, 2], first_nonce: 3 }.words(),
-        Words::access(Operation::Read, token, task),
-        Words::access(Operation::Write, token, task),
-        Words::access(Operation::Fetch, token, task),
+        access(Operation::Read),
+        access(Operation::Write),
+        access(Operation::Fetch),
         Request::Create { token, task, length, user, permissions, encoding }.words(),
         Request::Merge { first: token, second, task, encoding }.words(),
         Request::Derive { token, offset, length, permissions, encoding }.words(),
@@ -223,8 +224,8 @@ fn each_request_has_its_words() {
         Request::Lock { token, task }.words(),
         Request::Unlock { token, task }.words(),
         Request::Revoke { token, encoding }.words(),
-        Words::access(Operation::Load, token, task),
-        Words::access(Operation::Dump, token, task),
+        access(Operation::Load),
+        access(Operation::Dump),
     ];
     for (operation, words) in Operation::ALL.into_iter().zip(all) {
         let values = [operation as u64, 1, 2, 3, 4, 5, 6, 3];

@@ -4,14 +4,14 @@ use std::collections::VecDeque;
 use std::io;
 use std::time::Duration;
 
-use bridge::{Reply, State, Words};
-use session::server::{Server, Trouble};
+use bridge::{Lent, Reply, State, Words};
+use session::server::{Longest, Server, Trouble};
 use session::World;
 
 use crate::line::Read;
 use crate::machine::Machine;
 use crate::process::Process;
-use crate::protocol::{self, BUFFER, GREETING, LINE, PIECE};
+use crate::protocol::{self, BUFFER, GREETING, LEASES, LINE, PIECE};
 use crate::text::shortened;
 
 /// How long a program may take for an answer, if nothing else is said.
@@ -240,10 +240,12 @@ impl Machine for Simulator {
         self.stop_at_trouble(begun)
     }
 
-    fn serve(&mut self, request: &Words, buffer: &mut [u8]) -> Result<Reply, Trouble> {
+    fn serve(&mut self, request: &Words, lent: Lent) -> Result<Reply, Trouble> {
+        let Lent { buffer, leases } = lent;
         let mut line = b"serve".to_vec();
         protocol::write_numbers(&mut line, &request.in_order());
         protocol::write_bytes(&mut line, buffer);
+        protocol::write_bytes(&mut line, leases);
         let reply = self.serve_and_show(line).and_then(|answer| self.read_answer(&answer, buffer));
         self.stop_at_trouble(reply)
     }
@@ -301,17 +303,12 @@ impl Server for Simulator {
         Machine::begin(self, world)
     }
 
-    fn longest(&self) -> usize {
-        BUFFER
+    fn longest(&self) -> Longest {
+        Longest { buffer: BUFFER, leases: LEASES }
     }
 
-    fn serve(
-        &mut self,
-        request: &Words,
-        world: &mut World,
-        buffer: &mut [u8],
-    ) -> Result<Reply, Trouble> {
-        let reply = Machine::serve(self, request, buffer)?;
+    fn serve(&mut self, request: &Words, world: &mut World, lent: Lent) -> Result<Reply, Trouble> {
+        let reply = Machine::serve(self, request, lent)?;
         world.replace(&self.shown);
         Ok(reply)
     }

@@ -25,21 +25,64 @@ pub fn cases() -> impl Iterator<Item = Case> {
 #[derive(Clone, Debug, PartialEq, Eq)]
 pub struct Coverage {
     answers: [Row; OPERATIONS],
-    /// Of the requests under a total above its top: what they come to under another total.
-    bad_total: Row,
+    /// Of the requests that had to be refused for something: what they come to without that.
+    under: [[Row; OPERATIONS]; Under::ALL.len()],
     pub events: Events,
+}
+
+/// For what a request has to be refused, whatever else is wrong with it.
+#[derive(Clone, Copy, Debug, PartialEq, Eq)]
+pub enum Under {
+    /// A total above its top.
+    BadTotal,
+    /// Leases of its token, none of which is open.
+    Closed,
+    /// A bad lease, of whatever token.
+    BadLease,
+    /// An access's minute beyond the week.
+    BadMinute,
+    /// Leases of a wrong size.
+    BadSize,
+}
+
+impl Under {
+    const ALL: [Under; 5] =
+        [Under::BadTotal, Under::Closed, Under::BadLease, Under::BadMinute, Under::BadSize];
+
+    fn name(self) -> &'static str {
+        match self {
+            Under::BadTotal => "bad total, else",
+            Under::Closed => "closed, else",
+            Under::BadLease => "bad lease, else",
+            Under::BadMinute => "minute, else",
+            Under::BadSize => "size, else",
+        }
+    }
+
+    /// Whether a request of an operation that is under it can come to a case without it.
+    fn possible(self, operation: u64, case: Case) -> bool {
+        let leased = Operation::of(operation).is_some_and(Operation::is_leased);
+        let check = Check::of(case.0);
+        let of_leases = match self {
+            Under::BadTotal => return false,
+            Under::Closed | Under::BadSize => {
+                [Check::Closed, Check::Lease].map(Some).contains(&check)
+            }
+            Under::BadLease => check == Some(Check::Lease),
+            Under::BadMinute => false,
+        };
+        leased && !of_leases && possible(operation, case)
+    }
 }
 
 /// A number for each refusal and place.
 type Row = [[u64; PLACES]; REFUSALS];
 
-/// What the row of `bad_total` is called.
-const BAD_TOTAL: &str = "bad total, else";
-
 impl Default for Coverage {
     fn default() -> Self {
         let row = [[0; PLACES]; REFUSALS];
-        Coverage { answers: [row; OPERATIONS], bad_total: row, events: Events::default() }
+        let under = [[row; OPERATIONS]; Under::ALL.len()];
+        Coverage { answers: [row; OPERATIONS], under, events: Events::default() }
     }
 }
 
@@ -58,9 +101,14 @@ impl Coverage {
         add(&mut self.answers[row(operation)], reply);
     }
 
-    /// Counts a request that was refused under a total above its top, by its reply under another.
-    pub fn count_total(&mut self, otherwise: &Reply) {
-        add(&mut self.bad_total, otherwise);
+    /// Counts a request that had to be refused for something, by its reply without that.
+    pub fn count_under(&mut self, under: Under, operation: u64, otherwise: &Reply) {
+        add(&mut self.under[under as usize][row(operation)], otherwise);
+    }
+
+    /// How many requests of all operations came to a case without something.
+    fn reached_under(&self, under: Under, case: Case) -> u64 {
+        self.under[under as usize].iter().map(|row| cell(row, case)).sum()
     }
 
     pub fn reached(&self, operation: u64, case: Case) -> u64 {
@@ -75,14 +123,30 @@ impl Coverage {
             .filter(|&(operation, case)| self.reached(operation, case) == 0)
             .map(|(operation, case)| format!("{} {}", name(row(operation)), heading(case)))
             .chain(self.missing_totals())
+            .chain(self.missing_under())
             .chain(self.events.missing())
             .collect()
     }
 
     /// Where no total above its top was judged before the case.
     fn missing_totals(&self) -> impl Iterator<Item = String> + '_ {
-        let missing = cases().filter(|case| *cell(&self.bad_total, *case) == 0);
-        missing.map(|case| format!("{BAD_TOTAL} {}", heading(case)))
+        let under = Under::BadTotal;
+        let missing = cases().filter(move |case| self.reached_under(under, *case) == 0);
+        missing.map(move |case| format!("{} {}", under.name(), heading(case)))
+    }
+
+    /// Where no closed or bad lease, bad minute or size came together with the case, operation by
+    /// operation.
+    fn missing_under(&self) -> impl Iterator<Item = String> + '_ {
+        let pairs = || (0..OPERATIONS).flat_map(|row| cases().map(move |case| (row, case)));
+        Under::ALL.into_iter().flat_map(move |under| {
+            let possible = pairs().filter(move |(row, case)| under.possible(*row as u64, *case));
+            let rows = &self.under[under as usize];
+            let missing = possible.filter(|(row, case)| *cell(&rows[*row], *case) == 0);
+            let text =
+                move |(row, case)| format!("{} {} {}", name(row), under.name(), heading(case));
+            missing.map(text)
+        })
     }
 }
 
@@ -129,8 +193,10 @@ impl fmt::Display for Coverage {
                 self.cell(f, row as u64, case)?;
             }
         }
-        write!(f, "\n{BAD_TOTAL:<15}")?;
-        cases().try_for_each(|case| write!(f, " {:>8}", cell(&self.bad_total, case)))?;
+        for under in Under::ALL {
+            write!(f, "\n{:<15}", under.name())?;
+            cases().try_for_each(|case| write!(f, " {:>8}", self.reached_under(under, case)))?;
+        }
         write!(f, "\n\n{}", self.events)
     }
 }

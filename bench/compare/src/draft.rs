@@ -1,7 +1,7 @@
 //! A session as the shrinker holds it: tokens that an earlier request gave are held as such, so that
 //! they stay right when the requests before them change.
 
-use bridge::{Argument, Operation, Reply, Words};
+use bridge::{Argument, Lease, Operation, Reply, Words, LEASE_BYTES};
 use session::token::{self, Token};
 use session::{Session, Step, World};
 
@@ -25,6 +25,27 @@ pub struct Part {
     pub buffer: Vec<u8>,
     pub token: Source,
     pub second: Source,
+    pub leases: Vec<Held>,
+    /// What stands behind the last whole lease.
+    pub rest: Vec<u8>,
+}
+
+/// A lease that is lent with a request.
+#[derive(Clone, Debug, PartialEq, Eq)]
+pub struct Held {
+    pub token: u64,
+    pub of: Of,
+    /// The opening and the closing one.
+    pub minutes: [u64; 2],
+}
+
+/// Whose a lease is.
+#[derive(Clone, Copy, Debug, PartialEq, Eq)]
+pub enum Of {
+    /// The token's that the request names, but for these bits of its number and its tag.
+    Request { number: u64, tag: u64 },
+    /// A token's from elsewhere.
+    Token(Source),
 }
 
 #[derive(Clone, Debug, PartialEq, Eq)]
@@ -43,15 +64,19 @@ impl Draft {
         let mut replies = Replies::new();
         let mut parts = Vec::new();
         for (name, step) in session.steps.iter().enumerate() {
-            let Step { request, buffer } = step.clone();
+            let Step { request, buffer, leases } = step.clone();
             let operation = Operation::of(request.operation);
             let one = operation.is_none_or(Operation::names_entry);
             let two = operation.is_some_and(|operation| operation.takes(Argument::SecondToken));
             let token = if one { source(&replies, request.token) } else { Source::Word };
             let second = if two { source(&replies, request.second) } else { Source::Word };
-            parts.push(Part { name, request, buffer, token, second });
-            let reply = world.serve(&request, &mut step.buffer.clone());
-            replies.push((name, reply));
+            let (whole, rest) = leases.as_chunks::<LEASE_BYTES>();
+            let held = |bytes: &[u8; LEASE_BYTES]| {
+                Held::of(Lease::from_bytes(*bytes), request.token, &replies)
+            };
+            let (leases, rest) = (whole.iter().map(held).collect(), rest.to_vec());
+            parts.push(Part { name, request, buffer, token, second, leases, rest });
+            replies.push((name, step.serve(&mut world)));
         }
         Draft { world: session.world.clone(), parts }
     }
@@ -64,9 +89,10 @@ impl Draft {
             return Some(Found { session, difference });
         }
         for part in &self.parts {
-            let request = part.resolve(&replies);
-            session.steps.push(Step { request, buffer: part.buffer.clone() });
-            match pair.ask(&request, &part.buffer) {
+            let step = part.resolve(&replies);
+            let answer = pair.ask(&step);
+            session.steps.push(step);
+            match answer {
                 Ok(reply) => replies.push((part.name, reply)),
                 Err(difference) => return Some(Found { session, difference }),
             }
@@ -89,6 +115,11 @@ impl Draft {
         for part in &mut draft.parts {
             gone.stand_in(&mut part.token, &mut part.request.token);
             gone.stand_in(&mut part.second, &mut part.request.second);
+            for Held { token, of, .. } in &mut part.leases {
+                if let Of::Token(source) = of {
+                    gone.stand_in(source, token);
+                }
+            }
         }
         draft
     }
@@ -117,10 +148,47 @@ impl Part {
         *word = token::packed(encoding, tag, number, offset);
     }
 
-    fn resolve(&self, replies: &Replies) -> Words {
+    fn resolve(&self, replies: &Replies) -> Step {
         let token = self.token.resolve(self.request.token, replies);
         let second = self.second.resolve(self.request.second, replies);
-        Words { token, second, ..self.request }
+        let leases = self.leases.iter().flat_map(|held| held.resolve(token, replies).to_bytes());
+        let leases = leases.chain(self.rest.iter().copied()).collect();
+        let request = Words { token, second, ..self.request };
+        Step { request, buffer: self.buffer.clone(), leases }
+    }
+}
+
+impl Held {
+    /// A lease that is lent with a request through a token.
+    fn of(lease: Lease, named: u64, replies: &Replies) -> Held {
+        let Lease { number, tag, opening, closing } = lease;
+        let token = token::packed(1, tag.into(), number.into(), 0);
+        let (named, leased) = (Token::unpack(named), Token::unpack(token));
+        let same_tag = leased.tag == named.tag && leased.tag != 0;
+        let of = match leased.number == named.number || same_tag {
+            true => {
+                let (number, tag) = (leased.number ^ named.number, leased.tag ^ named.tag);
+                Of::Request { number, tag }
+            }
+            false => Of::Token(source(replies, token)),
+        };
+        Held { token, of, minutes: [opening.into(), closing.into()] }
+    }
+
+    /// The lease, beside the token that its request names now.
+    fn resolve(&self, named: u64, replies: &Replies) -> Lease {
+        let (number, tag) = match self.of {
+            Of::Request { number, tag } => {
+                let named = Token::unpack(named);
+                (named.number ^ number, named.tag ^ tag)
+            }
+            Of::Token(source) => {
+                let Token { number, tag, .. } = Token::unpack(source.resolve(self.token, replies));
+                (number, tag)
+            }
+        };
+        let [opening, closing] = self.minutes.map(|minute| minute as u16);
+        Lease { number: number as u16, tag: tag as u16, opening, closing }
     }
 }
 

@@ -3,9 +3,11 @@
 
 use std::fmt;
 
-use bridge::{text_length, Check, Operation, Place, Reply, State, Words, TEXT_BYTES};
+use bridge::{text_length, Check, Lease, Operation, Place, Reply, State, Words};
+use bridge::{LEASES_BYTES, LEASE_BYTES, TEXT_BYTES, WEEK};
 use session::entry::{self, Entry};
 use session::token::Token;
+use session::Step;
 
 use crate::free;
 use crate::limits::{ENTRIES, MEMORY, SPENT};
@@ -50,9 +52,35 @@ pub enum Event {
     RootDropped,
     FullByTable,
     ResetOverTotal,
+    OpenAtOpening,
+    ClosedBeforeOpening,
+    OpenBeforeClosing,
+    ClosedAtClosing,
+    OpenOverSunday,
+    OpenOnMonday,
+    ClosedInWeek,
+    FirstAloneOpen,
+    LastAloneOpen,
+    NoneOpen,
+    LastOfAll,
+    LastOfAllClosed,
+    OtherTag,
+    OtherNumber,
+    ParentClosed,
+    BadOfOther,
+    EqualMinutes,
+    OpeningBeyond,
+    ClosingBeyond,
+    LastMinute,
+    MinuteBeyond,
+    MostLeases,
+    TooManyLeases,
+    PartOfLease,
+    LeasesForOthers,
+    MisfitForOthers,
 }
 
-pub const EVENTS: [(Event, &str); 36] = [
+pub const EVENTS: [(Event, &str); 62] = [
     (Event::PassedOne, "a revoke passed over one nonce"),
     (Event::PassedTwo, "a revoke passed over two nonces"),
     (Event::RefusedByPassing, "a revoke was refused since all nonces left were passed over"),
@@ -89,6 +117,32 @@ pub const EVENTS: [(Event, &str); 36] = [
     (Event::RootDropped, "number 0 was freed by a drop"),
     (Event::FullByTable, "no number was free, and the total was not 0"),
     (Event::ResetOverTotal, "a reset over a total above its top was granted"),
+    (Event::OpenAtOpening, "an access at its lease's opening was granted"),
+    (Event::ClosedBeforeOpening, "an access a minute before its lease's opening was refused"),
+    (Event::OpenBeforeClosing, "an access a minute before its lease's closing was granted"),
+    (Event::ClosedAtClosing, "an access at its lease's closing was refused"),
+    (Event::OpenOverSunday, "a lease over the week's end was open at minute 10,079"),
+    (Event::OpenOnMonday, "a lease over the week's end was open at minute 0"),
+    (Event::ClosedInWeek, "a lease over the week's end was closed a minute before its opening"),
+    (Event::FirstAloneOpen, "of a token's leases the first alone was open"),
+    (Event::LastAloneOpen, "of a token's leases the last alone was open"),
+    (Event::NoneOpen, "of a token's leases none was open"),
+    (Event::LastOfAll, "the last of 64 leases alone opened an access"),
+    (Event::LastOfAllClosed, "the last of 64 leases alone closed an access"),
+    (Event::OtherTag, "a closed lease of the same number and another tag was no bar"),
+    (Event::OtherNumber, "a closed lease of the same tag and another number was no bar"),
+    (Event::ParentClosed, "what was derived was open under a closed lease of its parent's"),
+    (Event::BadOfOther, "an access was refused for another token's bad lease"),
+    (Event::EqualMinutes, "an access was refused for a lease with equal minutes"),
+    (Event::OpeningBeyond, "an access was refused for an opening at minute 10,080"),
+    (Event::ClosingBeyond, "an access was refused for a closing at minute 10,080"),
+    (Event::LastMinute, "an access at minute 10,079 was granted"),
+    (Event::MinuteBeyond, "an access at minute 10,080 was refused"),
+    (Event::MostLeases, "an access with 64 leases was granted"),
+    (Event::TooManyLeases, "an access with 65 leases was refused"),
+    (Event::PartOfLease, "an access with a part of a lease was refused"),
+    (Event::LeasesForOthers, "a request that is no access was granted with bad leases"),
+    (Event::MisfitForOthers, "a request that is no access was refused for its table of leases"),
 ];
 
 /// What stood before a request.
@@ -111,18 +165,14 @@ impl Default for Events {
 }
 
 impl Events {
-    /// Looks at a request that was served with a buffer of so many bytes; the machine stands as it was
-    /// left.
-    pub fn count(
-        &mut self,
-        (request, lent): (&Words, usize),
-        reply: &Reply,
-        before: Before,
-        machine: &dyn Machine,
-    ) {
-        let seen = Seen { request, reply, before, after: machine.state(), machine };
+    /// Looks at a request that was served; the machine stands as it was left.
+    pub fn count(&mut self, step: &Step, reply: &Reply, before: Before, machine: &dyn Machine) {
+        let Step { request, buffer, leases } = step;
+        let (seen, lent) =
+            (Seen { request, reply, before, after: machine.state(), machine }, buffer.len());
         let operation = Operation::of(request.operation);
         self.total(&seen, operation);
+        self.leases(&seen, operation, leases);
         if operation.is_some_and(Operation::gives_number) {
             self.given(&seen);
         }
@@ -237,6 +287,93 @@ impl Events {
         }
     }
 
+    /// What leases and minutes did.
+    fn leases(&mut self, seen: &Seen, operation: Option<Operation>, bytes: &[u8]) {
+        let (granted, refused) =
+            (seen.reply.refusal == 0, seen.reply.refusal == Check::Request as u64);
+        let (whole, rest) = bytes.as_chunks::<LEASE_BYTES>();
+        let all: Vec<Lease> = whole.iter().map(|bytes| Lease::from_bytes(*bytes)).collect();
+        if !operation.is_some_and(Operation::is_leased) {
+            let bad = all.iter().any(|lease| !lease.is_sound());
+            self.add(Event::LeasesForOthers, granted && bad);
+            let misfit = !rest.is_empty() || bytes.len() > LEASES_BYTES;
+            return self.add(Event::MisfitForOthers, refused && misfit);
+        }
+        let minute = seen.request.second;
+        self.add(Event::LastMinute, granted && minute + 1 == WEEK);
+        self.add(Event::MinuteBeyond, refused && minute == WEEK && rest.is_empty());
+        let most = LEASES_BYTES / LEASE_BYTES;
+        let sized = minute < WEEK && rest.is_empty();
+        self.add(Event::MostLeases, granted && all.len() == most);
+        self.add(Event::TooManyLeases, refused && all.len() == most + 1 && sized);
+        self.add(Event::PartOfLease, refused && !rest.is_empty() && minute < WEEK);
+        match Check::of(seen.reply.refusal) {
+            Some(Check::Lease) => self.bad_leases(seen, &all),
+            Some(Check::Closed) => self.windows(seen, &all, false),
+            None => self.windows(seen, &all, true),
+            _ => {}
+        }
+    }
+
+    fn bad_leases(&mut self, seen: &Seen, all: &[Lease]) {
+        let bad: Vec<&Lease> = all.iter().filter(|lease| !lease.is_sound()).collect();
+        let [lease] = bad[..] else { return };
+        let beyond = |minute: u16| u64::from(minute) == WEEK;
+        self.add(Event::BadOfOther, !lease.is_of(seen.token()));
+        self.add(
+            Event::EqualMinutes,
+            lease.opening == lease.closing && u64::from(lease.opening) < WEEK,
+        );
+        self.add(Event::OpeningBeyond, beyond(lease.opening) && u64::from(lease.closing) < WEEK);
+        self.add(Event::ClosingBeyond, beyond(lease.closing) && u64::from(lease.opening) < WEEK);
+    }
+
+    /// The leases of an access that was open, or closed.
+    fn windows(&mut self, seen: &Seen, all: &[Lease], open: bool) {
+        let own: Vec<Lease> =
+            all.iter().copied().filter(|lease| lease.is_of(seen.token())).collect();
+        if let [lease] = own[..] {
+            self.window(lease, seen.request.second, open);
+        }
+        let is_open = |lease: &Lease| lease.is_open_at(seen.request.second);
+        let opened = own.iter().filter(|lease| is_open(lease)).count();
+        let several = own.len() > 1;
+        self.add(Event::FirstAloneOpen, several && opened == 1 && own.first().is_some_and(is_open));
+        self.add(Event::LastAloneOpen, several && opened == 1 && own.last().is_some_and(is_open));
+        self.add(Event::NoneOpen, several && opened == 0);
+        let last = all.len() == LEASES_BYTES / LEASE_BYTES && all.last() == own.last();
+        self.add(Event::LastOfAll, last && open && own.len() == 1);
+        self.add(Event::LastOfAllClosed, last && !open && own.len() == 1);
+        if open && own.is_empty() {
+            self.strange(seen, all);
+        }
+    }
+
+    /// The one lease of a token whose access was open, or closed.
+    fn window(&mut self, lease: Lease, minute: u64, open: bool) {
+        let [opening, closing] = [lease.opening, lease.closing].map(u64::from);
+        self.add(Event::OpenAtOpening, open && minute == opening);
+        self.add(Event::ClosedBeforeOpening, !open && minute + 1 == opening);
+        self.add(Event::OpenBeforeClosing, open && minute + 1 == closing);
+        self.add(Event::ClosedAtClosing, !open && minute == closing);
+        let over = opening > closing;
+        self.add(Event::OpenOverSunday, over && open && minute + 1 == WEEK);
+        self.add(Event::OpenOnMonday, over && open && minute == 0);
+        self.add(Event::ClosedInWeek, over && !open && minute + 1 == opening);
+    }
+
+    /// Closed leases of others than the token whose access was granted.
+    fn strange(&mut self, seen: &Seen, all: &[Lease]) {
+        let closed = || all.iter().filter(|lease| !lease.is_open_at(seen.request.second));
+        let (number, tag) = (seen.token().number(), seen.token().tag());
+        self.add(Event::OtherTag, closed().any(|lease| u64::from(lease.number) == number));
+        self.add(Event::OtherNumber, closed().any(|lease| u64::from(lease.tag) == tag));
+        let named = seen.entry(seen.named());
+        let parent = bridge::Token(named.get(entry::PARENT));
+        let derived = named.kind() == entry::INDIRECT;
+        self.add(Event::ParentClosed, derived && closed().any(|lease| lease.is_of(parent)));
+    }
+
     /// What was not reached, as text.
     pub fn missing(&self) -> Vec<String> {
         let missing = EVENTS.iter().filter(|(event, _)| self.0[*event as usize] == 0);
@@ -254,6 +391,10 @@ struct Seen<'a> {
 }
 
 impl Seen<'_> {
+    fn token(&self) -> bridge::Token {
+        bridge::Token(self.request.token)
+    }
+
     fn named(&self) -> usize {
         Token::unpack(self.request.token).number as usize
     }

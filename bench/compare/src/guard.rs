@@ -6,12 +6,12 @@ use std::io;
 use std::ptr::null_mut;
 use std::str::FromStr;
 
-use bridge::{words_of, Reply, State, Words};
+use bridge::{is_plain, words_of, Lent, Reply, State, Words};
 use session::server::Trouble;
 use session::World;
 
 use crate::machine::Machine;
-use crate::protocol::BUFFER;
+use crate::protocol::{BUFFER, LEASES};
 
 /// At which end of each slice the unmapped page is.
 #[derive(Clone, Copy, Debug, PartialEq, Eq)]
@@ -135,6 +135,7 @@ pub struct Guarded {
     memory: Area,
     buffer: Area,
     answer: Area,
+    leases: Area,
 }
 
 impl Guarded {
@@ -146,12 +147,13 @@ impl Guarded {
             memory: Area::new((1 << 24) + PAGE, guard)?,
             buffer: Area::new(BUFFER, guard)?,
             answer: Area::new(PAGE, guard)?,
+            leases: Area::new(LEASES, guard)?,
         })
     }
 
-    /// The interface's function over slices of any lengths, each put against its page. What was
-    /// lent is left in the slices. It returns the refusal.
-    pub fn call(&mut self, lent: [&mut [u8]; 6]) -> u64 {
+    /// One of the interface's functions over slices of any lengths, each put against its page; the
+    /// one with leases, if they are lent. What was lent is left in the slices. It returns the refusal.
+    pub fn call(&mut self, lent: [&mut [u8]; 6], leases: Option<&[u8]>) -> u64 {
         let [request, state, table, memory, buffer, answer] = lent;
         self.request.put(request);
         self.state.put(state);
@@ -159,7 +161,8 @@ impl Guarded {
         self.memory.put(memory);
         self.buffer.put(buffer);
         self.answer.put(answer);
-        let refusal = self.call_as_it_stands();
+        self.leases.put(leases.unwrap_or(&[]));
+        let refusal = self.call_as_it_stands(leases.is_none());
         state.copy_from_slice(self.state.bytes());
         table.copy_from_slice(self.table.bytes());
         memory.copy_from_slice(self.memory.bytes());
@@ -168,15 +171,15 @@ impl Guarded {
         refusal
     }
 
-    fn call_as_it_stands(&mut self) -> u64 {
-        bridge::call(
-            self.request.bytes(),
-            self.state.bytes_mut(),
-            self.table.bytes_mut(),
-            self.memory.bytes_mut(),
-            self.buffer.bytes_mut(),
-            self.answer.bytes_mut(),
-        )
+    fn call_as_it_stands(&mut self, plain: bool) -> u64 {
+        let request = self.request.bytes();
+        let (state, table) = (self.state.bytes_mut(), self.table.bytes_mut());
+        let (memory, buffer) = (self.memory.bytes_mut(), self.buffer.bytes_mut());
+        let (answer, leases) = (self.answer.bytes_mut(), self.leases.bytes());
+        match plain {
+            true => bridge::call(request, state, table, memory, buffer, answer),
+            false => bridge::call_leased(request, state, table, memory, buffer, answer, leases),
+        }
     }
 }
 
@@ -197,12 +200,17 @@ impl Machine for Guarded {
         Ok(())
     }
 
-    fn serve(&mut self, request: &Words, buffer: &mut [u8]) -> Result<Reply, Trouble> {
+    fn serve(&mut self, request: &Words, lent: Lent) -> Result<Reply, Trouble> {
+        let Lent { buffer, leases } = lent;
         put_words(&mut self.request, &request.in_order());
         put_words(&mut self.answer, &[u64::MAX; Reply::WORDS]);
         self.buffer.put(buffer);
-        let returned = self.call_as_it_stands();
+        self.leases.put(leases);
+        let returned = self.call_as_it_stands(is_plain(request, leases));
         buffer.copy_from_slice(self.buffer.bytes());
+        if self.leases.bytes() != leases {
+            return Err(Trouble::Broken("the leases, which are only read, were changed".into()));
+        }
         let reply = Reply::from_order(words_of(self.answer.bytes()));
         if reply.refusal != returned {
             let message = format!("returned {returned}, but the answer says {}", reply.refusal);

@@ -1,6 +1,6 @@
 //! Machines that can be compared.
 
-use bridge::{Reply, State, Words};
+use bridge::{Lent, Reply, State, Words};
 use session::server::{self, Server, Trouble};
 use session::World;
 
@@ -11,8 +11,8 @@ pub trait Machine {
     /// Takes over a world, whatever stood there.
     fn begin(&mut self, world: &World) -> Result<(), Trouble>;
 
-    /// Serves one request; the buffer is lent for the call and keeps its length.
-    fn serve(&mut self, request: &Words, buffer: &mut [u8]) -> Result<Reply, Trouble>;
+    /// Serves one request. What is lent is lent for the call, and the buffer keeps its length.
+    fn serve(&mut self, request: &Words, lent: Lent) -> Result<Reply, Trouble>;
 
     /// Whether it may remember sessions before the one at hand.
     fn remembers(&self) -> bool {
@@ -76,8 +76,8 @@ impl<S: Server> Machine for Local<S> {
         Ok(())
     }
 
-    fn serve(&mut self, request: &Words, buffer: &mut [u8]) -> Result<Reply, Trouble> {
-        self.server.serve(request, &mut self.world, buffer)
+    fn serve(&mut self, request: &Words, lent: Lent) -> Result<Reply, Trouble> {
+        self.server.serve(request, &mut self.world, lent)
     }
 
     fn state(&self) -> State {

@@ -1,7 +1,7 @@
 //! Two machines that get the same requests, compared after each of them.
 
-use bridge::{Reply, State, Words};
-use session::{replace, Session, World};
+use bridge::{Lent, Reply, State};
+use session::{replace, Session, Step, World};
 
 use crate::difference::Difference;
 use crate::machine::Machine;
@@ -28,16 +28,17 @@ impl Pair {
     /// Serves one request on both. Refusal with place, tokens, drop's number, a text's length, state
     /// and every byte of table, memory and buffer must be the same; and a refusal must leave all as
     /// it was.
-    pub fn ask(&mut self, request: &Words, buffer: &[u8]) -> Result<Reply, Difference> {
+    pub fn ask(&mut self, step: &Step) -> Result<Reply, Difference> {
+        let Step { request, buffer, leases } = step;
         replace(&mut self.mine, buffer);
         replace(&mut self.theirs, buffer);
         let before = self.reference.state();
-        let mine = self.reference.serve(request, &mut self.mine);
+        let mine = self.reference.serve(request, Lent { buffer: &mut self.mine, leases });
         let mine = mine.map_err(Difference::Trouble)?;
         if mine.refusal != 0 {
             self.unchanged(&mine, before, buffer)?;
         }
-        let theirs = self.other.serve(request, &mut self.theirs);
+        let theirs = self.other.serve(request, Lent { buffer: &mut self.theirs, leases });
         let theirs = theirs.map_err(Difference::Trouble)?;
         if mine != theirs {
             return Err(Difference::Reply([mine, theirs]));
@@ -80,8 +81,6 @@ impl Pair {
             return Some((0, difference));
         }
         let mut steps = session.steps.iter().enumerate();
-        steps.find_map(|(at, step)| {
-            self.ask(&step.request, &step.buffer).err().map(|difference| (at, difference))
-        })
+        steps.find_map(|(at, step)| self.ask(step).err().map(|difference| (at, difference)))
     }
 }

@@ -8,11 +8,12 @@ use bridge::{Check, Operation, Reply, Words};
 use session::entry::{self, Entry};
 use session::{Session, Step, World};
 
-use crate::coverage::Coverage;
+use crate::coverage::{Coverage, Under};
 use crate::dice::Dice;
 use crate::difference::Difference;
 use crate::events::Before;
 use crate::free;
+use crate::leases;
 use crate::machine::Machine;
 use crate::pair::Pair;
 use crate::progress::Progress;
@@ -86,26 +87,32 @@ impl<'a> Player<'a> {
         self.found = Some(Found { session, difference });
     }
 
-    pub fn ask_with(&mut self, mut request: Words, buffer: Vec<u8>) -> Reply {
+    /// Asks a request with a buffer. No leases are lent, unless all that is not used is rubbish.
+    pub fn ask_with(&mut self, request: Words, buffer: Vec<u8>) -> Reply {
+        let leased = Operation::of(request.operation).is_some_and(Operation::is_leased);
+        let leases = match self.rubbish && !leased {
+            true => leases::rubbish(&mut self.dice),
+            false => Vec::new(),
+        };
+        self.ask_lent(Step { request, buffer, leases })
+    }
+
+    /// Asks a request with all that is lent with it.
+    pub fn ask_lent(&mut self, mut step: Step) -> Reply {
         if self.over() {
             return STOPPED;
         }
         if self.rubbish {
-            request = self.with_rubbish(request);
+            step.request = self.with_rubbish(step.request);
         }
         self.asked += 1;
         self.progress.asked(self.asked);
         let before = self.before();
-        self.log.steps.push(Step { request, buffer });
-        let buffer = self.log.steps.last().map_or(&[][..], |step| &step.buffer);
-        match self.pair.ask(&request, buffer) {
+        let answer = self.pair.ask(&step);
+        self.log.steps.push(step);
+        match answer {
             Ok(reply) => {
-                self.coverage.count(request.operation, &reply);
-                let (machine, lent) = (self.pair.reference.as_ref(), buffer.len());
-                self.coverage.events.count((&request, lent), &reply, before, machine);
-                let otherwise = without_total(&request, buffer, &reply, machine);
-                otherwise.iter().for_each(|reply| self.coverage.count_total(reply));
-                self.keep(request.operation, &reply);
+                self.count(&reply, before);
                 reply
             }
             Err(difference) => {
@@ -113,6 +120,22 @@ impl<'a> Player<'a> {
                 STOPPED
             }
         }
+    }
+
+    /// Counts what the last request reached, and keeps the tokens that it gave.
+    fn count(&mut self, reply: &Reply, before: Before) {
+        let Some(step) = self.log.steps.last() else { return };
+        let (machine, operation) = (self.pair.reference.as_ref(), step.request.operation);
+        self.coverage.count(operation, reply);
+        self.coverage.events.count(step, reply, before, machine);
+        for (under, step) in step_without(step, reply, machine) {
+            let mut world = world_of(machine);
+            if under == Under::BadTotal {
+                world.state.total = 0;
+            }
+            self.coverage.count_under(under, operation, &step.serve(&mut world));
+        }
+        self.keep(operation, reply);
     }
 
     pub fn ask(&mut self, request: Words) -> Reply {
@@ -240,21 +263,28 @@ fn world_of(machine: &dyn Machine) -> World {
     World { state: machine.state(), table, memory }
 }
 
-/// What a request that was refused under a total above its top comes to under another total.
-fn without_total(
-    request: &Words,
-    buffer: &[u8],
-    reply: &Reply,
-    machine: &dyn Machine,
-) -> Option<Reply> {
+/// Of a request that was refused: what it was under for which it had to be, and the same without that.
+fn step_without(step: &Step, reply: &Reply, machine: &dyn Machine) -> Vec<(Under, Step)> {
+    let mut found = Vec::new();
     let above = machine.state().total > free::top(machine.table());
-    let judged = request.operation != Operation::Reset as u64;
-    if !above || !judged || reply.refusal != Check::Request as u64 {
-        return None;
+    let judged = step.request.operation != Operation::Reset as u64;
+    if above && judged && reply.refusal == Check::Request as u64 {
+        found.push((Under::BadTotal, step.clone()));
     }
-    let mut world = world_of(machine);
-    world.state.total = 0;
-    Some(world.serve(request, &mut buffer.to_vec()))
+    if reply.refusal == Check::Request as u64 && leases::is_beyond(&step.request) {
+        let request = Words { second: 0, ..step.request };
+        found.push((Under::BadMinute, Step { request, ..step.clone() }));
+    }
+    if reply.refusal == Check::Request as u64 && !leases::fit(&step.leases) {
+        found.push((Under::BadSize, Step { leases: Vec::new(), ..step.clone() }));
+    }
+    let leases = leases::judge(&step.request, &step.leases);
+    if reply.refusal != 0 && leases.bad {
+        found.push((Under::BadLease, Step { leases: leases::sound(&step.leases), ..step.clone() }));
+    } else if reply.refusal != 0 && leases.closed {
+        found.push((Under::Closed, Step { leases: Vec::new(), ..step.clone() }));
+    }
+    found
 }
 
 impl fmt::Display for Found {
@@ -269,8 +299,7 @@ impl fmt::Display for Found {
         writeln!(f)?;
         let mut world = self.session.world.clone();
         let steps = self.session.steps.iter();
-        let replies = steps.map(|step| world.serve(&step.request, &mut step.buffer.clone()));
-        let replies: Vec<Reply> = replies.collect();
+        let replies: Vec<Reply> = steps.map(|step| step.serve(&mut world)).collect();
         f.write_str(&session::text::print_with(&self.session, &replies))
     }
 }

@@ -2,11 +2,11 @@
 //! standard output.
 //!
 //! ```text
-//! northbridge 3                                   northbridge 3
+//! northbridge 4                                   northbridge 4
 //! world TABLE MEMORY KEY0 KEY1 LAST NEXT TOTAL    ok
 //! table AT BYTES                                  ok
 //! memory AT BYTES                                 ok
-//! serve WORD0 .. WORD7 BUFFER                     answer REFUSAL PLACE FIRST SECOND DROPPED LENGTH
+//! serve WORD0 .. WORD7 BUFFER LEASES              answer REFUSAL PLACE FIRST SECOND DROPPED LENGTH
 //!                                                        KEY0 KEY1 LAST NEXT TOTAL BUFFER
 //! show-table AT LENGTH                            bytes BYTES
 //! show-memory AT LENGTH                           bytes BYTES
@@ -15,18 +15,18 @@
 //!
 //! Numbers are hexadecimal without a prefix, bytes two digits each, and `-` stands for no bytes.
 //! `world` gives a table and a memory of so many zero bytes, and a state; `table` and `memory` put
-//! bytes into them; `serve` gives a request's eight words and its buffer. No line, asked or answered,
-//! holds more than 8,192 bytes, two digits each, but for a buffer, which has at most 69,632; so none has
-//! more than 139,520 characters. A simulator flushes its output after each answer and ends at the end
-//! of its input.
+//! bytes into them; `serve` gives a request's eight words, its buffer and its leases. No line, asked or
+//! answered, holds more than 8,192 bytes, two digits each, but for a buffer, which has at most 69,632,
+//! with leases of at most 1,024 behind it; so none has more than 141,568 characters. A simulator flushes
+//! its output after each answer and ends at the end of its input.
 
 use bridge::{Reply, State, Words};
 
 /// The protocol's version. It is raised with every change that a simulator can see.
-const VERSION: &str = "3";
+const VERSION: &str = "4";
 
 /// The first line, and its answer.
-pub const GREETING: &str = "northbridge 3";
+pub const GREETING: &str = "northbridge 4";
 
 /// How many bytes of table or memory one line holds at most.
 pub const PIECE: usize = 8_192;
@@ -34,8 +34,11 @@ pub const PIECE: usize = 8_192;
 /// How many bytes a buffer has at most: more than HEX text may have.
 pub const BUFFER: usize = 69_632;
 
+/// How many bytes leases have at most: twice what may be lent.
+pub const LEASES: usize = 1_024;
+
 /// How many characters one line has at most: two for each byte, and room for the words before them.
-pub const LINE: usize = 2 * BUFFER + 256;
+pub const LINE: usize = 2 * (BUFFER + LEASES) + 256;
 
 /// A line, read.
 #[derive(Clone, Debug, PartialEq, Eq)]
@@ -43,7 +46,7 @@ pub enum Line {
     Greeting,
     World { table: usize, memory: usize, state: State },
     Put { part: Name, at: usize, bytes: Vec<u8> },
-    Serve { words: Words, buffer: Vec<u8> },
+    Serve { words: Words, buffer: Vec<u8>, leases: Vec<u8> },
     Show { part: Name, at: usize, length: usize },
 }
 
@@ -61,9 +64,10 @@ pub fn parse(line: &str) -> Result<Line, String> {
         ["world", ref rest @ ..] => world(rest),
         ["table", at, text] => put(Name::Table, at, text),
         ["memory", at, text] => put(Name::Memory, at, text),
-        ["serve", ref rest @ .., buffer] => {
-            let words = Words::from_order(numbers(rest)?);
-            Ok(Line::Serve { words, buffer: bytes(buffer, BUFFER)? })
+        ["serve", ref rest @ .., buffer, leases] => {
+            let words = Words::from_order(numbers(rest, "before the last two")?);
+            let (buffer, leases) = (bytes(buffer, BUFFER)?, bytes(leases, LEASES)?);
+            Ok(Line::Serve { words, buffer, leases })
         }
         ["show-table", at, length] => show(Name::Table, at, length),
         ["show-memory", at, length] => show(Name::Memory, at, length),
@@ -74,7 +78,7 @@ pub fn parse(line: &str) -> Result<Line, String> {
 fn expected(word: Option<&str>) -> String {
     let form = match word {
         Some("table" | "memory") => "a place and bytes",
-        Some("serve") => "eight words and a buffer",
+        Some("serve") => "eight words, a buffer and leases",
         Some("show-table" | "show-memory") => "a place and a length",
         _ => "northbridge, world, table, memory, serve, show-table or show-memory",
     };
@@ -89,7 +93,7 @@ fn greeting(words: &[&str]) -> Result<Line, String> {
 }
 
 fn world(words: &[&str]) -> Result<Line, String> {
-    let [table, memory, state @ ..] = numbers::<{ 2 + State::WORDS }>(words)?;
+    let [table, memory, state @ ..] = numbers::<{ 2 + State::WORDS }>(words, "behind the first")?;
     let (table, memory) = (length(table)?, length(memory)?);
     Ok(Line::World { table, memory, state: State::from_order(state) })
 }
@@ -121,7 +125,7 @@ pub fn parse_answer(line: &str) -> Result<(Reply, State, Vec<u8>), String> {
     let ["answer", ref rest @ .., buffer] = words[..] else {
         return Err(ANSWER.to_string());
     };
-    let numbers: [u64; Reply::WORDS + State::WORDS] = numbers(rest)?;
+    let numbers: [u64; Reply::WORDS + State::WORDS] = numbers(rest, "before the last")?;
     let reply = std::array::from_fn(|at| numbers[at]);
     let state = std::array::from_fn(|at| numbers[Reply::WORDS + at]);
     Ok((Reply::from_order(reply), State::from_order(state), bytes(buffer, BUFFER)?))
@@ -146,12 +150,12 @@ fn number(word: &str) -> Result<u64, String> {
     number.ok_or_else(|| format!("expected a hexadecimal number of 64 bits, not '{word}'"))
 }
 
-/// Exactly as many numbers as are wanted.
-fn numbers<const N: usize>(words: &[&str]) -> Result<[u64; N], String> {
+/// Exactly as many numbers as are wanted, and where they stand.
+fn numbers<const N: usize>(words: &[&str], place: &str) -> Result<[u64; N], String> {
     let numbers: Result<Vec<u64>, String> = words.iter().map(|word| number(word)).collect();
     let numbers = numbers?;
     let count = numbers.len();
-    numbers.try_into().map_err(|_| format!("expected {N} words before the last, not {count}"))
+    numbers.try_into().map_err(|_| format!("expected {N} words {place}, not {count}"))
 }
 
 /// Up to so many bytes.
@@ -232,8 +236,8 @@ mod tests {
         let put = Line::Put { part: Name::Memory, at: 10, bytes: vec![0xAB, 0] };
         assert_eq!(parse("memory a Ab00"), Ok(put));
         let words = Words::from_order([1, 0, 0, 0, 0, 0, 0, u64::MAX]);
-        let serve = Line::Serve { words, buffer: vec![] };
-        assert_eq!(parse("serve 1 0 0 0 0 0 0 ffffffffffffffff -"), Ok(serve));
+        let serve = Line::Serve { words, buffer: vec![], leases: vec![1, 2] };
+        assert_eq!(parse("serve 1 0 0 0 0 0 0 ffffffffffffffff - 0102"), Ok(serve));
         let show = Line::Show { part: Name::Table, at: 0, length: 32 };
         assert_eq!(parse("show-table 0 20"), Ok(show));
     }
@@ -242,10 +246,10 @@ mod tests {
     fn bad_lines_say_what_was_expected() {
         let wrong = |line: &str| parse(line).unwrap_err();
         assert!(wrong("").contains("northbridge"));
-        assert!(wrong("northbridge 2").contains("version 3"));
+        assert!(wrong("northbridge 3").contains("version 4"));
         assert!(wrong("world 40 10 1 2 3 4").contains("7 words"));
-        assert!(wrong("serve 1 2 -").contains("8 words"));
-        assert!(wrong("serve +1 0 0 0 0 0 0 0 -").contains("'+1'"));
+        assert!(wrong("serve 1 2 - -").contains("8 words before the last two, not 2"));
+        assert!(wrong("serve +1 0 0 0 0 0 0 0 - -").contains("'+1'"));
         assert!(wrong("table 0 abc").contains("even"));
         assert!(wrong("table 0 zz").contains("'zz'"));
         assert!(wrong("world ffffffffffffffff 0 0 0 0 0 0").contains("length"));
@@ -259,8 +263,12 @@ mod tests {
         assert_eq!(table(PIECE + 1), Err("expected at most 8192 bytes, not 8193".to_string()));
         assert!(parse("show-memory 0 2000").is_ok());
         assert!(parse("show-memory 0 2001").unwrap_err().contains("at most 2000 bytes"));
-        let serve = |bytes: usize| parse(&format!("serve 0 0 0 0 0 0 0 0 {}", "00".repeat(bytes)));
-        assert!(serve(BUFFER).is_ok() && serve(BUFFER + 1).is_err());
+        let serve = |buffer: usize, leases: usize| {
+            let [buffer, leases] = [buffer, leases].map(|bytes| "00".repeat(bytes));
+            parse(&format!("serve 0 0 0 0 0 0 0 0 {buffer} {leases}"))
+        };
+        assert!(serve(BUFFER, LEASES).is_ok());
+        assert!(serve(BUFFER + 1, LEASES).is_err() && serve(BUFFER, LEASES + 1).is_err());
     }
 
     /// The longest lines there are: a request with the widest words, and its answer.
@@ -271,6 +279,7 @@ mod tests {
             let mut line = name.as_bytes().to_vec();
             write_numbers(&mut line, &vec![u64::MAX; words]);
             write_bytes(&mut line, &[0; BUFFER]);
+            write_bytes(&mut line, &[0; LEASES]);
             assert!(line.len() <= LINE, "{name}: {}", line.len());
         }
     }

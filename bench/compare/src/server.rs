@@ -2,7 +2,7 @@
 
 use std::io::{self, BufRead, Write};
 
-use bridge::Words;
+use bridge::{Lent, Words};
 use session::World;
 
 use crate::line::{self, Read};
@@ -50,7 +50,9 @@ fn respond(world: &mut World, line: &str, answer: &mut Vec<u8>) -> Result<(), St
             place.ok_or_else(outside)?.copy_from_slice(&bytes);
             answer.extend_from_slice(b"ok");
         }
-        Line::Serve { words, mut buffer } => ask(world, &words, &mut buffer, answer),
+        Line::Serve { words, mut buffer, leases } => {
+            ask(world, &words, Lent { buffer: &mut buffer, leases: &leases }, answer);
+        }
         Line::Show { part, at, length } => {
             let shown = place(world, part).get(at..at + length).ok_or_else(outside)?;
             answer.extend_from_slice(b"bytes");
@@ -71,8 +73,9 @@ fn outside() -> String {
     "expected a place inside the world's table or memory".to_string()
 }
 
-fn ask(world: &mut World, words: &Words, buffer: &mut [u8], answer: &mut Vec<u8>) {
-    let reply = world.serve(words, buffer);
+fn ask(world: &mut World, words: &Words, lent: Lent, answer: &mut Vec<u8>) {
+    let Lent { buffer, leases } = lent;
+    let reply = world.serve(words, Lent { buffer, leases });
     answer.extend_from_slice(b"answer");
     protocol::write_numbers(answer, &reply.in_order());
     protocol::write_numbers(answer, &world.state.in_order());

@@ -4,8 +4,10 @@
 use bridge::{text_length, Argument, Buffer, Operation, Words};
 use session::entry::{self, Entry};
 use session::token::{self, Token};
+use session::Step;
 
 use crate::image;
+use crate::leases::{self, Shift};
 use crate::player::Player;
 
 /// How often each operation is asked.
@@ -35,6 +37,7 @@ const ORDER: [Argument; Argument::ALL.len()] = [
     Argument::SecondToken,
     Argument::FirstNonce,
     Argument::Key,
+    Argument::Minute,
     Argument::Task,
     Argument::Holder,
     Argument::Length,
@@ -92,6 +95,12 @@ pub fn ask(player: &mut Player, operation: Operation) {
 
 /// Asks one random request of an operation, mostly through the entry of a number.
 pub fn ask_through(player: &mut Player, operation: Operation, number: usize) {
+    let (words, buffer) = request(player, operation, number);
+    ask_in_shift(player, words, buffer);
+}
+
+/// A random request of an operation with its buffer, mostly through the entry of a number.
+pub fn request(player: &mut Player, operation: Operation, number: usize) -> (Words, Vec<u8>) {
     let entry = player.entry(number);
     if operation.is_access() {
         return access(player, operation, number, &entry);
@@ -103,7 +112,33 @@ pub fn ask_through(player: &mut Player, operation: Operation, number: usize) {
         _ if player.dice.once_in(16) => player.dice.bytes(3),
         _ => Vec::new(),
     };
-    player.ask_with(words, buffer);
+    (words, buffer)
+}
+
+/// How often a request that looks at leases is lent some, and how often one that does not.
+const LEASED: u64 = 6;
+const LENT: u64 = 32;
+
+/// Asks a request, now and then with leases, and then at a minute.
+fn ask_in_shift(player: &mut Player, words: Words, buffer: Vec<u8>) {
+    let leased = Operation::of(words.operation).is_some_and(Operation::is_leased);
+    match leased {
+        true if player.dice.once_in(LEASED) => ask_during(player, words, buffer),
+        false if player.dice.once_in(LENT) => {
+            let leases = leases::rubbish(&mut player.dice);
+            player.ask_lent(Step { request: words, buffer, leases });
+        }
+        _ => drop(player.ask_with(words, buffer)),
+    }
+}
+
+/// Asks a request that looks at leases, with some.
+pub fn ask_during(player: &mut Player, words: Words, buffer: Vec<u8>) {
+    let number = used_number(player);
+    let other = player.token(number);
+    let Shift { minute, leases } = leases::shift(&mut player.dice, words.token, other);
+    let request = Words { second: minute, ..words };
+    player.ask_lent(Step { request, buffer, leases });
 }
 
 /// A buffer for the text of so many bytes: as long, a little longer or shorter, or empty.
@@ -198,15 +233,19 @@ fn length(player: &mut Player, whole: u64) -> u64 {
     }
 }
 
-fn access(player: &mut Player, operation: Operation, number: usize, entry: &Entry) {
+fn access(
+    player: &mut Player,
+    operation: Operation,
+    number: usize,
+    entry: &Entry,
+) -> (Words, Vec<u8>) {
     let whole = entry.length();
     let buffer = buffer_length(player, whole);
     let named = token(player, number, entry);
     let token = with_offset(player, named, whole, buffer as u64);
     let task = task(player);
     let words = Words { operation: operation as u64, token, task, ..Words::default() };
-    let bytes = player.dice.bytes(buffer);
-    player.ask_with(words, bytes);
+    (words, player.dice.bytes(buffer))
 }
 
 fn buffer_length(player: &mut Player, whole: u64) -> usize {
@@ -246,7 +285,8 @@ fn words(player: &mut Player, operation: Operation, number: usize, entry: &Entry
 fn choose(player: &mut Player, argument: Argument, entry: &Entry, words: &mut Words) {
     let whole = entry.length();
     match argument {
-        Argument::Address | Argument::Token => {}
+        // A minute is chosen with the leases.
+        Argument::Address | Argument::Token | Argument::Minute => {}
         Argument::SecondToken => words.second = neighbour(player, entry),
         Argument::Key => [words.token, words.second] = [player.dice.word(), player.dice.word()],
         Argument::Offset => words.second = offset(player, whole, words.length),

@@ -1,6 +1,7 @@
-//! Requests, states and answers of other lengths: refusal 1, and nothing is written but an answer of
-//! the right length, each slice hard against an unmapped page.
+//! Requests, states, answers and leases of other lengths: refusal 1, and nothing is written but an
+//! answer of the right length, each slice hard against an unmapped page.
 
+use bridge::{LEASES_BYTES, LEASE_BYTES};
 use compare::{Guard, Guarded};
 
 const REQUEST: usize = 64;
@@ -10,11 +11,15 @@ const LENGTHS: [usize; 18] =
     [0, 1, 7, 8, 9, 31, 32, 33, 40, 47, 48, 49, 63, 64, 65, 100, 4_096, 65_536];
 
 /// Calls with an access that would be granted, were the lengths right.
-fn call(guarded: &mut Guarded, [request, state, answer]: [usize; 3]) -> (u64, Vec<u8>) {
+fn call(
+    guarded: &mut Guarded,
+    [request, state, answer]: [usize; 3],
+    leases: Option<&[u8]>,
+) -> (u64, Vec<u8>) {
     let mut lent = Lent::new([request, state, answer]);
     let before = lent.clone();
     let Lent { request, state, table, memory, buffer, answer } = &mut lent;
-    let refusal = guarded.call([request, state, table, memory, buffer, answer]);
+    let refusal = guarded.call([request, state, table, memory, buffer, answer], leases);
     let answer = lent.answer.clone();
     lent.answer.clone_from(&before.answer);
     if refusal != 0 {
@@ -61,14 +66,18 @@ fn lengths(guard: Guard) {
     for request in LENGTHS {
         for state in LENGTHS {
             for answer in LENGTHS {
-                one(&mut guarded, [request, state, answer]);
+                one(&mut guarded, [request, state, answer], None);
+                one(&mut guarded, [request, state, answer], Some(&OPEN));
             }
         }
     }
 }
 
-fn one(guarded: &mut Guarded, lengths: [usize; 3]) {
-    let (refusal, answer) = call(guarded, lengths);
+/// A lease of another token.
+const OPEN: [u8; LEASE_BYTES] = [1, 0, 0, 0, 1, 0, 2, 0];
+
+fn one(guarded: &mut Guarded, lengths: [usize; 3], leases: Option<&[u8]>) {
+    let (refusal, answer) = call(guarded, lengths, leases);
     if lengths == [REQUEST, STATE, ANSWER] {
         assert_eq!((refusal, answer), (0, vec![0; ANSWER]));
         return;
@@ -90,4 +99,25 @@ fn other_lengths_with_the_page_before() {
 #[test]
 fn other_lengths_with_the_page_behind() {
     lengths(Guard::Behind);
+}
+
+/// Whole leases are taken, and no more than can be lent.
+fn leases(guard: Guard) {
+    let mut guarded = Guarded::new(guard).expect("guarded pages");
+    let many = OPEN.repeat(2 * LEASES_BYTES / LEASE_BYTES);
+    for length in 0..=many.len() {
+        let (refusal, _) = call(&mut guarded, [REQUEST, STATE, ANSWER], Some(&many[..length]));
+        let taken = length % LEASE_BYTES == 0 && length <= LEASES_BYTES;
+        assert_eq!(refusal, u64::from(!taken), "{length} bytes of leases");
+    }
+}
+
+#[test]
+fn leases_of_other_lengths_with_the_page_before() {
+    leases(Guard::Before);
+}
+
+#[test]
+fn leases_of_other_lengths_with_the_page_behind() {
+    leases(Guard::Behind);
 }

@@ -1,6 +1,6 @@
 //! A difference is shrunk to the shortest session, the same one each time.
 
-use bridge::{Check, Operation, Reply, State, Words};
+use bridge::{Check, Lent, Operation, Reply, State, Words};
 use compare::{compare, Machine, Options, Outcome, Pair, Proved, Trouble};
 use session::entry::{self, Entry};
 use session::token::Token;
@@ -23,8 +23,8 @@ impl Machine for Faulty {
         self.proved.begin(world)
     }
 
-    fn serve(&mut self, request: &Words, buffer: &mut [u8]) -> Result<Reply, Trouble> {
-        let mut reply = self.proved.serve(request, buffer)?;
+    fn serve(&mut self, request: &Words, lent: Lent) -> Result<Reply, Trouble> {
+        let mut reply = self.proved.serve(request, lent)?;
         if request.operation == Operation::Revoke as u64 && reply.refusal == 0 {
             self.revokes += 1;
             reply.first ^= u64::from(self.revokes >= self.limit);
@@ -97,8 +97,8 @@ impl Machine for Stranger {
         self.0.begin(world)
     }
 
-    fn serve(&mut self, request: &Words, buffer: &mut [u8]) -> Result<Reply, Trouble> {
-        let reply = self.0.serve(request, buffer)?;
+    fn serve(&mut self, request: &Words, lent: Lent) -> Result<Reply, Trouble> {
+        let reply = self.0.serve(request, lent)?;
         let read = request.operation == Operation::Read as u64 && reply.refusal == 0;
         let wrong = read && self.is_derived_under_lock(request.token);
         Ok(if wrong { Reply { refusal: Check::Lock as u64, ..reply } } else { reply })

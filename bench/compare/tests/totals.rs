@@ -4,7 +4,7 @@
 use std::cell::Cell;
 use std::rc::Rc;
 
-use bridge::{Operation, Reply, State, Words};
+use bridge::{Lent, Operation, Reply, State, Words};
 use compare::{compare, Machine, Model, Options, Pair, Proved, Trouble};
 use session::entry::{Entry, SIZE};
 use session::World;
@@ -31,9 +31,9 @@ impl<M: Machine> Machine for Counted<M> {
         self.machine.begin(world)
     }
 
-    fn serve(&mut self, request: &Words, buffer: &mut [u8]) -> Result<Reply, Trouble> {
+    fn serve(&mut self, request: &Words, lent: Lent) -> Result<Reply, Trouble> {
         let before = self.state();
-        let reply = self.machine.serve(request, buffer)?;
+        let reply = self.machine.serve(request, lent)?;
         let (after, entries) = (self.state(), (self.table().len() / SIZE) as u64);
         self.from_reset |= request.operation == Operation::Reset as u64 && reply.refusal == 0;
         if reply.refusal == 0 {

@@ -4,7 +4,7 @@
 use std::env;
 use std::process::Command;
 
-use bridge::{Reply, State, Words};
+use bridge::{Lent, Reply, State, Words};
 use compare::{compare, run, Guard, Machine, Model, Options, Pair, Trouble};
 use session::World;
 
@@ -22,7 +22,7 @@ impl Machine for Reader {
         Ok(())
     }
 
-    fn serve(&mut self, _: &Words, _: &mut [u8]) -> Result<Reply, Trouble> {
+    fn serve(&mut self, _: &Words, _: Lent) -> Result<Reply, Trouble> {
         // Page 0 is never mapped: the read ends by the signal that this test waits for.
         let byte = unsafe { std::ptr::without_provenance::<u8>(64).read_volatile() };
         Ok(Reply { refusal: byte.into(), ..Reply::default() })

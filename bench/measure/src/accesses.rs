@@ -1,6 +1,6 @@
 //! Accesses: reads, writes and fetches of several sizes through lines of several depths.
 
-use bridge::{Operation, Task, Words};
+use bridge::{Lease, Operation, Task, Token, Words};
 
 use crate::built::Built;
 use crate::case::Case;
@@ -31,8 +31,32 @@ pub fn cases(way: Operation, depth: usize) -> Vec<Case> {
             world: built.world.clone(),
             request,
             buffer: vec![0xa5; bytes],
+            leases: None,
             limit,
         }
     };
     SIZES.map(case).into()
+}
+
+/// How many leases are lent with a read: none, one, and as many as can be.
+pub const LEASES: [usize; 3] = [0, 1, 64];
+
+/// A read of a few bytes by the function with leases. A single lease is the token's, and open; of many
+/// none is, so that all are passed over.
+pub fn leased(leases: usize) -> Case {
+    let mut built = Built::new(3, MEMORY);
+    let token = built.line(1)[1];
+    let address = token.at(OFFSET as u64).expect("encoding 0 has room for it");
+    let whose = if leases == 1 { token } else { Token::ROOT };
+    let lease = Lease::of(whose, 0, 5_000).expect("a number of the table");
+    Case {
+        name: "read, leased",
+        of: format!("12 bytes, depth 1, {leases} leases"),
+        size: leases,
+        world: built.world,
+        request: Words::access(Operation::Read, address, Task::NONE),
+        buffer: vec![0xa5; 12],
+        leases: Some(lease.to_bytes().repeat(leases)),
+        limit: Limit::Leases(OFFSET..OFFSET + 12),
+    }
 }

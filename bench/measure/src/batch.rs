@@ -13,7 +13,7 @@ use bridge::{ANSWER_BYTES, REQUEST_BYTES, STATE_BYTES};
 use crate::case::Case;
 use crate::limit::{self, Limit};
 use crate::paged::Paged;
-use crate::served::{self, Call};
+use crate::served::{self, Call, Leased, Plain};
 
 /// The copies together have about this many bytes, so that they stay in the nearest cache.
 const COPIED_BYTES: usize = 12_288;
@@ -56,6 +56,7 @@ pub struct Batch {
     buffer: Paged,
     /// What a text is copied to, or from.
     copied: Paged,
+    leases: Paged,
     passes: usize,
 }
 
@@ -68,13 +69,14 @@ impl Batch {
             Lent { state, typed, table: case.world.table.clone(), answer: [0xff; ANSWER_BYTES] };
         let memory = Paged::new(&case.world.memory);
         let (buffer, copied) = (Paged::new(&case.buffer), Paged::new(&case.buffer));
+        let leases = Paged::new(case.leases.as_deref().unwrap_or(&[]));
         let (copies, passes) = if case.repeats() {
             (1, (LENT_BYTES / case.buffer.len().max(1)).clamp(1, ACCESSES))
         } else {
             ((COPIED_BYTES / start.table.len()).clamp(1, MOST_COPIES), 1)
         };
         let copies = vec![start.clone(); copies];
-        Batch { case, request, start, copies, memory, buffer, copied, passes }
+        Batch { case, request, start, copies, memory, buffer, copied, leases, passes }
     }
 
     /// The nanoseconds of one call: the batch runs untimed to warm the caches, then timed.
@@ -90,8 +92,7 @@ impl Batch {
 
     /// Proved code and model grant the request and leave the same bytes.
     pub fn agree(&mut self) -> bool {
-        let proved = self.left_by(served::proved);
-        let model = self.left_by(served::model);
+        let [proved, model] = self.calls().map(|call| self.left_by(call));
         proved == model && proved.0[0].answer[0] == 0
     }
 
@@ -114,24 +115,37 @@ impl Batch {
 
     fn run(&mut self, subject: Subject) {
         match subject {
-            Subject::Proved => self.ask(served::proved),
-            Subject::Model => self.ask(served::model),
+            Subject::Proved => self.ask(self.calls()[0]),
+            Subject::Model => self.ask(self.calls()[1]),
             Subject::Direct => self.ask_directly(),
             Subject::Limit => self.limit(),
         }
     }
 
+    /// The function of the proved code that the case is for, and the model's.
+    fn calls(&self) -> [Call; 2] {
+        match self.case.leases {
+            None => [Call::Plain(served::proved), Call::Plain(served::model)],
+            Some(_) => [Call::Leased(served::proved_leased), Call::Leased(served::model_leased)],
+        }
+    }
+
     fn ask(&mut self, call: Call) {
-        let call = black_box(call);
-        for _ in 0..self.passes {
-            pass(call, &self.request, &mut self.copies, &mut self.memory, &mut self.buffer);
+        let Batch { request, copies, memory, buffer, leases, .. } = self;
+        match black_box(call) {
+            Call::Plain(call) => {
+                (0..self.passes).for_each(|_| pass(call, request, copies, memory, buffer));
+            }
+            Call::Leased(call) => (0..self.passes)
+                .for_each(|_| leased_pass(call, request, copies, memory, buffer, leases)),
         }
     }
 
     fn ask_directly(&mut self) {
+        let Batch { copies, memory, buffer, leases, .. } = self;
         let request = served::request_of(&self.request);
         for _ in 0..self.passes {
-            direct_pass(request, &mut self.copies, &mut self.memory, &mut self.buffer);
+            direct_pass(request, copies, memory, buffer, leases);
         }
     }
 
@@ -150,6 +164,10 @@ impl Batch {
                 Limit::Load(range) => limit::copy(&mut self.buffer, &self.memory[range.clone()]),
                 Limit::Store(range) => limit::copy(&mut self.memory[range.clone()], &self.buffer),
                 Limit::Text(_) => limit::copy(&mut self.copied, &self.buffer),
+                Limit::Leases(range) => {
+                    black_box(limit::pass(black_box(&self.leases)));
+                    limit::copy(&mut self.buffer, &self.memory[range.clone()]);
+                }
                 Limit::ClearTable => limit::clear(&mut copy.table),
                 Limit::Renew(range) => {
                     limit::clear(&mut self.memory[range.clone()]);
@@ -166,22 +184,36 @@ impl Batch {
     }
 }
 
-fn pass(call: Call, request: &[u8], copies: &mut [Lent], memory: &mut [u8], buffer: &mut [u8]) {
+fn pass(call: Plain, request: &[u8], copies: &mut [Lent], memory: &mut [u8], buffer: &mut [u8]) {
     for copy in copies {
-        black_box(call(
-            request,
-            &mut copy.state,
-            &mut copy.table,
-            memory,
-            buffer,
-            &mut copy.answer,
-        ));
+        let Lent { state, table, answer, .. } = copy;
+        black_box(call(request, state, table, memory, buffer, answer));
     }
 }
 
-fn direct_pass(request: model::Request, copies: &mut [Lent], memory: &mut [u8], buffer: &mut [u8]) {
+fn leased_pass(
+    call: Leased,
+    request: &[u8],
+    copies: &mut [Lent],
+    memory: &mut [u8],
+    buffer: &mut [u8],
+    leases: &[u8],
+) {
     for copy in copies {
-        let request = black_box(request);
-        black_box(model::serve(request, &mut copy.typed, &mut copy.table, memory, buffer));
+        let Lent { state, table, answer, .. } = copy;
+        black_box(call(request, state, table, memory, buffer, answer, leases));
+    }
+}
+
+fn direct_pass(
+    request: model::Request,
+    copies: &mut [Lent],
+    memory: &mut [u8],
+    buffer: &mut [u8],
+    leases: &[u8],
+) {
+    for copy in copies {
+        let (request, Lent { typed, table, .. }) = (black_box(request), copy);
+        black_box(model::serve(request, typed, table, memory, buffer, leases));
     }
 }

@@ -1,6 +1,6 @@
 //! Worlds to measure in, built by requests that are granted.
 
-use bridge::{Encoding, Permissions, Request, Task, Token};
+use bridge::{Encoding, Lent, Permissions, Request, Task, Token};
 use session::{entry, World};
 
 pub const KEY: [u64; 2] = [0x0706_0504_0302_0100, 0x0f0e_0d0c_0b0a_0908];
@@ -21,7 +21,7 @@ impl Built {
 
     /// The first token of a request that must be granted.
     pub fn ask(&mut self, request: &Request) -> Token {
-        let reply = self.world.serve(&request.words(), &mut []);
+        let reply = self.world.serve(&request.words(), Lent::of(&mut []));
         assert_eq!(reply.refusal, 0, "{request:?} builds a world to measure in");
         Token(reply.first)
     }

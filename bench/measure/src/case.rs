@@ -17,6 +17,8 @@ pub struct Case {
     pub request: Words,
     /// What stands in the buffer.
     pub buffer: Vec<u8>,
+    /// The leases that are lent; none where the function without them is called.
+    pub leases: Option<Vec<u8>>,
     pub limit: Limit,
 }
 
@@ -24,7 +26,7 @@ impl Case {
     /// A granted access, load or dump leaves the table as it was, so that it can be asked again at
     /// once.
     pub fn repeats(&self) -> bool {
-        self.is_access() || matches!(self.limit, Limit::Text(_))
+        self.is_access() || matches!(self.limit, Limit::Text(_) | Limit::Leases(..))
     }
 
     pub fn is_access(&self) -> bool {

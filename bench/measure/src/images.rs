@@ -1,6 +1,6 @@
 //! Loads and dumps of several sizes.
 
-use bridge::{Operation, Task, Token, Words, TEXT_BYTES};
+use bridge::{Lent, Operation, Task, Token, Words, TEXT_BYTES};
 
 use crate::built::Built;
 use crate::case::Case;
@@ -32,7 +32,7 @@ fn mixed(bytes: usize) -> Built {
 /// The text of such a segment.
 fn text(bytes: usize) -> Vec<u8> {
     let mut text = vec![0; TEXT_BYTES];
-    let reply = mixed(bytes).world.serve(&request(Operation::Dump), &mut text);
+    let reply = mixed(bytes).world.serve(&request(Operation::Dump), Lent::of(&mut text));
     assert_eq!(reply.refusal, 0, "a dump of {bytes} bytes");
     text.truncate(reply.length as usize);
     text
@@ -45,5 +45,5 @@ fn request(operation: Operation) -> Words {
 fn case(operation: Operation, bytes: usize, built: Built, buffer: Vec<u8>) -> Case {
     let (of, limit) = (format!("{bytes} bytes"), Limit::Text(buffer.len()));
     let (name, request) = (operation.name(), request(operation));
-    Case { name, of, size: bytes, world: built.world, request, buffer, limit }
+    Case { name, of, size: bytes, world: built.world, request, buffer, leases: None, limit }
 }

@@ -1,8 +1,8 @@
 //! What the proved northbridge costs: time, stack and instructions.
 //!
 //! - [`time`] measures the proved code, the model and the limits side by side, and writes tables;
-//! - [`stack`] measures how much stack the shallowest call, the deepest walk, the deepest drop, a load
-//!   and a dump need, which a test holds to [`BOUND`];
+//! - [`stack`] measures how much stack the shallowest call, the deepest walk, with leases and without,
+//!   the deepest drop, a load and a dump need, which a test holds to [`BOUND`];
 //! - [`refused`] gives the refused requests whose instructions `bench/instructions` counts.
 
 mod accesses;

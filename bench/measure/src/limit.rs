@@ -15,6 +15,8 @@ pub enum Limit {
     Store(Range<usize>),
     /// A load or a dump: so many bytes of text are copied.
     Text(usize),
+    /// A read under leases: their words are added up, and these bytes of memory copied to the buffer.
+    Leases(Range<usize>),
     /// A reset: the table is zeroed.
     ClearTable,
     /// A revoke: these bytes of memory are zeroed, and one entry is hashed.
@@ -30,6 +32,7 @@ impl Limit {
         match self {
             Limit::Load(_) | Limit::Store(_) => "memcpy".into(),
             Limit::Text(_) => "memcpy of the text".into(),
+            Limit::Leases(_) => "sum of the leases + memcpy".into(),
             Limit::ClearTable => "memset".into(),
             Limit::Renew(_) => "memset + SipHash".into(),
             Limit::Issue(1) => "SipHash".into(),
@@ -47,6 +50,13 @@ pub fn copy(to: &mut [u8], from: &[u8]) {
 #[inline(never)]
 pub fn clear(part: &mut [u8]) {
     part.fill(0);
+}
+
+/// One pass over leases: the sum of their words.
+#[inline(never)]
+pub fn pass(leases: &[u8]) -> u64 {
+    let words = leases.as_chunks::<8>().0.iter();
+    words.fold(0, |sum, word| sum.wrapping_add(u64::from_le_bytes(*word)))
 }
 
 /// So many hashes of 40 bytes.

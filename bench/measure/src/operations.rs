@@ -1,6 +1,6 @@
 //! The operations that are no access, each where it is granted.
 
-use bridge::{Encoding, Permissions, Request, Task, Token};
+use bridge::{Encoding, Lent, Permissions, Request, Task, Token};
 use session::World;
 
 use crate::accesses::DEPTHS;
@@ -48,7 +48,7 @@ fn a_derive(token: Token) -> Request {
 
 fn merge() -> Case {
     let mut built = Built::new(4, MEMORY);
-    let reply = built.world.serve(&a_create(PART).words(), &mut []);
+    let reply = built.world.serve(&a_create(PART).words(), Lent::of(&mut []));
     let (first, second) = (Token(reply.first), Token(reply.second));
     let request = Request::Merge { first, second, task: Task::NONE, encoding: Encoding::E0 };
     case("merge", "two parts".into(), 0, built.world, request, Limit::Issue(1))
@@ -141,5 +141,6 @@ fn case(
     request: Request,
     limit: Limit,
 ) -> Case {
-    Case { name, of, size, world, request: request.words(), buffer: Vec::new(), limit }
+    let (request, buffer) = (request.words(), Vec::new());
+    Case { name, of, size, world, request, buffer, leases: None, limit }
 }

@@ -26,6 +26,7 @@ pub fn parts() -> Vec<Part> {
         plain("Reads", of_way(read)),
         plain("Writes", of_way(write)),
         plain("Fetches", of_way(fetch)),
+        growing("Reads under leases", accesses::LEASES.map(accesses::leased), "lease", 1),
         growing("The walk: a clone at a line's end", LINES.map(operations::clone), "link", 1),
         growing("The climb: a drop that frees a line", LINES.map(operations::climb), "link", 1),
         growing(

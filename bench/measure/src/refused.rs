@@ -2,14 +2,14 @@
 //! the segment's bytes. What the tables stand at and what is asked are tried one with the other, and
 //! what the model refuses is kept.
 
-use bridge::{Encoding, Operation, Permissions, Request, Task, Token, Words};
-use bridge::{ANSWER_BYTES, TEXT_BYTES};
+use bridge::{Encoding, Lease, Lent, Operation, Permissions, Request, Task, Token, Words};
+use bridge::{ANSWER_BYTES, LEASES_BYTES, LEASE_BYTES, TEXT_BYTES, WEEK};
 use session::entry::{self, Entry};
 use session::server::{Model, Server};
 use session::World;
 
 use crate::built::{self, Built};
-use crate::served;
+use crate::served::{self, Leased, Plain};
 
 const MEMORY: usize = 16_384;
 /// The locked segment has number 1 and lies at memory's start; its child has 2, and the child's 3.
@@ -27,6 +27,8 @@ pub struct Refused {
     pub standing: &'static str,
     pub request: Words,
     pub buffer: Vec<u8>,
+    /// The leases that are lent; none where the function without them is called.
+    pub leases: Option<Vec<u8>>,
     pub refusal: u64,
     world: World,
 }
@@ -42,13 +44,17 @@ struct Locked {
     rest: Token,
 }
 
-/// All refused requests: of the segment as it was locked, with any token and task; and of other
-/// standings, with the tokens of its line, for the holder and another task.
+/// All refused requests: of the segment as it was locked, with any token and task, and under leases
+/// with the tokens of its line; and of other standings, with these tokens, for the holder and another
+/// task.
 pub fn refused() -> Vec<Refused> {
     let Locked { world, line, strange, rest } = locked();
     let any = [line.as_slice(), &strange].concat();
     let tasks = [Task::NONE, HOLDER, OTHER, TOO_LARGE];
     let mut all = refused_in("as locked", &world, &asked(&any, &tasks, rest));
+    let pairs = line.iter().flat_map(|token| tasks.map(|task| (*token, task)));
+    let under: Vec<Asked> = pairs.flat_map(|(token, task)| leased(token, task)).collect();
+    all.extend(refused_in("under leases", &world, &under));
     let asked = asked(&line, &[HOLDER, OTHER], rest);
     let others = standings(&world);
     all.extend(others.iter().flat_map(|(name, world)| refused_in(name, world, &asked)));
@@ -56,9 +62,9 @@ pub fn refused() -> Vec<Refused> {
 }
 
 impl Refused {
-    /// Asks the proved code through the call, on the copy whose locked segment holds the bytes that
-    /// the function gives. It returns the refusal.
-    pub fn ask(&self, call: served::Call, byte: impl Fn(usize) -> u8) -> u64 {
+    /// Asks the proved code through one of two calls, that without leases or that with them, on the copy
+    /// whose locked segment holds the bytes that the function gives. It returns the refusal.
+    pub fn ask(&self, plain: Plain, leased: Leased, byte: impl Fn(usize) -> u8) -> u64 {
         let mut world = self.world.clone();
         for (at, place) in world.memory[..LENGTH].iter_mut().enumerate() {
             *place = byte(at);
@@ -67,7 +73,11 @@ impl Refused {
         let (mut state, mut answer) = (served::state_bytes(&world.state), [0; ANSWER_BYTES]);
         let mut buffer = self.buffer.clone();
         let World { table, memory, .. } = &mut world;
-        call(&request, &mut state, table, memory, &mut buffer, &mut answer)
+        let (state, buffer, answer) = (&mut state, &mut buffer, &mut answer);
+        match &self.leases {
+            None => plain(&request, state, table, memory, buffer, answer),
+            Some(leases) => leased(&request, state, table, memory, buffer, answer, leases),
+        }
     }
 
     pub fn operation(&self) -> &'static str {
@@ -78,7 +88,7 @@ impl Refused {
 fn locked() -> Locked {
     let mut built = Built::new(8, MEMORY);
     let create = built::create(Token::ROOT, LENGTH as u64, Permissions::ALL);
-    let reply = built.world.serve(&create.words(), &mut []);
+    let reply = built.world.serve(&create.words(), Lent::of(&mut []));
     let (segment, rest) = (Token(reply.first), Token(reply.second));
     let child = built.ask(&built::derive(segment, 2_048, Permissions::R));
     let grandchild = built.ask(&built::derive(child, 1_024, Permissions::R));
@@ -123,15 +133,15 @@ fn fill(entry: Entry) -> Entry {
     entry.with(entry::KIND, 7)
 }
 
-/// A request and what stands in its buffer.
-type Asked = (Words, Vec<u8>);
+/// A request, what stands in its buffer, and its leases.
+type Asked = (Words, Vec<u8>, Option<Vec<u8>>);
 
-/// What is asked, with the buffer.
+/// What is asked, with all that is lent.
 fn asked(tokens: &[Token], tasks: &[Task], rest: Token) -> Vec<Asked> {
     let pairs = tokens.iter().flat_map(|token| tasks.iter().map(|task| (*token, *task)));
     let mut asked: Vec<Asked> =
         pairs.flat_map(|(token, task)| asked_through(token, task, rest)).collect();
-    asked.sort_by_key(|(request, buffer)| (request.in_order(), buffer.len(), buffer.clone()));
+    asked.sort_by_key(|(request, buffer, _)| (request.in_order(), buffer.len(), buffer.clone()));
     asked.dedup();
     asked
 }
@@ -139,12 +149,13 @@ fn asked(tokens: &[Token], tasks: &[Task], rest: Token) -> Vec<Asked> {
 fn asked_through(token: Token, task: Task, rest: Token) -> Vec<Asked> {
     let mut asked = [accesses(token, task), images(token, task)].concat();
     let others = [changes(token, task, rest), strange_changes(token, task)].concat();
-    asked.extend(others.into_iter().map(|words| (words, Vec::new())));
+    asked.extend(others.into_iter().map(|words| (words, Vec::new(), None)));
     asked
 }
 
 fn accesses(token: Token, task: Task) -> Vec<Asked> {
-    let access = |way, address, length| (Words::access(way, address, task), vec![0xa5; length]);
+    let access =
+        |way, address, length| (Words::access(way, address, task), vec![0xa5; length], None);
     let behind = Token(token.0 + LENGTH as u64);
     vec![
         access(Operation::Read, token, 64),
@@ -158,8 +169,8 @@ fn accesses(token: Token, task: Task) -> Vec<Asked> {
 
 /// Loads of right and wrong text, and dumps to a short and to a long buffer.
 fn images(token: Token, task: Task) -> Vec<Asked> {
-    let load = |text: &[u8]| (Words::access(Operation::Load, token, task), text.to_vec());
-    let dump = |length| (Words::access(Operation::Dump, token, task), vec![0xa5; length]);
+    let load = |text: &[u8]| (Words::access(Operation::Load, token, task), text.to_vec(), None);
+    let dump = |length| (Words::access(Operation::Dump, token, task), vec![0xa5; length], None);
     vec![
         load(b":0100000005FA\n:00000001FF\n"),
         load(b":02FFFE000506F6\n:00000001FF\n"),
@@ -169,6 +180,40 @@ fn images(token: Token, task: Task) -> Vec<Asked> {
         dump(64),
         dump(12_000),
     ]
+}
+
+/// Requests of all five kinds under leases: open, closed, bad, of others, and of wrong sizes; and one
+/// beyond the week.
+fn leased(token: Token, task: Task) -> Vec<Asked> {
+    let lease = |opening, closing| {
+        Lease::of(token, opening, closing).expect("a number of the table").to_bytes().to_vec()
+    };
+    let others = Lease::of(Token::ROOT, 1, 2).expect("number 0").to_bytes();
+    let most = LEASES_BYTES / LEASE_BYTES;
+    let tables = [
+        Vec::new(),
+        lease(0, 1),
+        lease(1, 2),
+        lease(1, 1),
+        others.repeat(most),
+        others.repeat(most + 1),
+        vec![0; LEASE_BYTES - 1],
+    ];
+    let end = b":00000001FF\n".to_vec();
+    let kinds = [
+        (Operation::Read, vec![0xa5; 64]),
+        (Operation::Write, vec![0xa5; 64]),
+        (Operation::Fetch, vec![0xa5; 64]),
+        (Operation::Load, end),
+        (Operation::Dump, vec![0xa5; 12_000]),
+    ];
+    let mut asked = Vec::new();
+    for (way, buffer) in kinds {
+        let words = Words::access(way, token, task);
+        asked.extend(tables.iter().map(|leases| (words, buffer.clone(), Some(leases.clone()))));
+        asked.push((Words { second: WEEK, ..words }, buffer, Some(lease(0, 1))));
+    }
+    asked
 }
 
 fn changes(token: Token, task: Task, rest: Token) -> Vec<Words> {
@@ -209,16 +254,18 @@ fn strange_changes(token: Token, task: Task) -> Vec<Words> {
 
 /// Those of the requests that are refused there.
 fn refused_in(standing: &'static str, world: &World, asked: &[Asked]) -> Vec<Refused> {
-    let kept = |(request, buffer): &Asked| {
-        let (request, buffer, world) = (*request, buffer.clone(), world.clone());
-        let refusal = refusal_of_model(&world, &request, &buffer);
-        (refusal != 0).then_some(Refused { standing, request, buffer, refusal, world })
+    let kept = |asked: &Asked| {
+        let refusal = refusal_of_model(world, asked);
+        let ((request, buffer, leases), world) = (asked.clone(), world.clone());
+        (refusal != 0).then_some(Refused { standing, request, buffer, leases, refusal, world })
     };
     asked.iter().filter_map(kept).collect()
 }
 
-fn refusal_of_model(world: &World, request: &Words, buffer: &[u8]) -> u64 {
-    let reply = Model.serve(request, &mut world.clone(), &mut buffer.to_vec());
+fn refusal_of_model(world: &World, (request, buffer, leases): &Asked) -> u64 {
+    let (mut buffer, leases) = (buffer.clone(), leases.as_deref().unwrap_or(&[]));
+    let lent = Lent { buffer: &mut buffer, leases };
+    let reply = Model.serve(request, &mut world.clone(), lent);
     reply.expect("the model always answers").refusal
 }
 
@@ -243,7 +290,8 @@ mod tests {
     fn the_proved_code_refuses_the_same_on_both_copies() {
         for one in refused() {
             for copy in [|_| 0, |at| at as u8] {
-                assert_eq!(one.ask(served::proved, copy), one.refusal, "{one:?}");
+                let refusal = one.ask(served::proved, served::proved_leased, copy);
+                assert_eq!(refusal, one.refusal, "{one:?}");
             }
         }
     }

@@ -1,6 +1,6 @@
-//! Who serves a request, each behind the same kind of call: a function over six byte slices that is
-//! never inlined and is called through a pointer. So neither the proved code nor the model gains by
-//! being compiled together with its caller.
+//! Who serves a request, each behind the same kind of call: a function over byte slices that is never
+//! inlined and is called through a pointer. So neither the proved code nor the model gains by being
+//! compiled together with its caller.
 
 use std::hint::black_box;
 
@@ -8,8 +8,18 @@ use bridge::{put_words, words_of, Check, State, Words};
 use bridge::{ANSWER_BYTES, REQUEST_BYTES, STATE_BYTES};
 use session::server::{model_request, model_state, reply_of_model, state_of_model};
 
-/// The interface's function: request, state, table, memory, buffer, answer. It returns the refusal.
-pub type Call = fn(&[u8], &mut [u8], &mut [u8], &mut [u8], &mut [u8], &mut [u8]) -> u64;
+/// `northbridge_serve`: request, state, table, memory, buffer, answer. It returns the refusal.
+pub type Plain = fn(&[u8], &mut [u8], &mut [u8], &mut [u8], &mut [u8], &mut [u8]) -> u64;
+
+/// `northbridge_serve_leased`: the same, and leases.
+pub type Leased = fn(&[u8], &mut [u8], &mut [u8], &mut [u8], &mut [u8], &mut [u8], &[u8]) -> u64;
+
+/// One of the interface's functions.
+#[derive(Clone, Copy)]
+pub enum Call {
+    Plain(Plain),
+    Leased(Leased),
+}
 
 /// The proved code.
 #[inline(never)]
@@ -24,8 +34,21 @@ pub fn proved(
     bridge::call(request, state, table, memory, buffer, answer)
 }
 
-/// The model, over the same bytes: the request and the state are decoded, and state and answer are
-/// written.
+/// The proved code with leases.
+#[inline(never)]
+pub fn proved_leased(
+    request: &[u8],
+    state: &mut [u8],
+    table: &mut [u8],
+    memory: &mut [u8],
+    buffer: &mut [u8],
+    answer: &mut [u8],
+    leases: &[u8],
+) -> u64 {
+    bridge::call_leased(request, state, table, memory, buffer, answer, leases)
+}
+
+/// The model, over the same bytes.
 #[inline(never)]
 pub fn model(
     request: &[u8],
@@ -35,6 +58,34 @@ pub fn model(
     buffer: &mut [u8],
     answer: &mut [u8],
 ) -> u64 {
+    decoded(request, state, table, memory, buffer, answer, &[])
+}
+
+/// The model with leases.
+#[inline(never)]
+pub fn model_leased(
+    request: &[u8],
+    state: &mut [u8],
+    table: &mut [u8],
+    memory: &mut [u8],
+    buffer: &mut [u8],
+    answer: &mut [u8],
+    leases: &[u8],
+) -> u64 {
+    decoded(request, state, table, memory, buffer, answer, leases)
+}
+
+/// The request and the state are decoded for the model, and state and answer are written.
+#[inline(always)]
+fn decoded(
+    request: &[u8],
+    state: &mut [u8],
+    table: &mut [u8],
+    memory: &mut [u8],
+    buffer: &mut [u8],
+    answer: &mut [u8],
+    leases: &[u8],
+) -> u64 {
     let (Ok(request), Ok(state), Ok(answer)) = (
         <&[u8; REQUEST_BYTES]>::try_from(request),
         <&mut [u8; STATE_BYTES]>::try_from(state),
@@ -43,7 +94,7 @@ pub fn model(
         return Check::Request as u64;
     };
     let mut typed = state_of(state);
-    let given = model::serve(request_of(request), &mut typed, table, memory, buffer);
+    let given = model::serve(request_of(request), &mut typed, table, memory, buffer, leases);
     put_words(state, &state_of_model(&typed).in_order());
     put_words(answer, &reply_of_model(&given).in_order());
     given.refusal

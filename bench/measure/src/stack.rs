@@ -6,8 +6,8 @@ use std::hint::black_box;
 use std::io;
 use std::ptr;
 
-use bridge::{Operation, Request, Task, Token, Words};
-use bridge::{ANSWER_BYTES, REQUEST_BYTES, STATE_BYTES};
+use bridge::{Lease, Operation, Request, Task, Token, Words};
+use bridge::{ANSWER_BYTES, LEASES_BYTES, LEASE_BYTES, REQUEST_BYTES, STATE_BYTES};
 use session::World;
 
 use crate::built::Built;
@@ -24,6 +24,9 @@ pub const BOUND: usize = 2_048;
 
 /// How many bytes are loaded and dumped.
 const IMAGE: usize = 23_000;
+
+/// As many leases as can be lent.
+const LEASES: usize = LEASES_BYTES / LEASE_BYTES;
 
 /// The stack to measure on, well above the bound.
 const SIZE: usize = 4 << 20;
@@ -42,6 +45,8 @@ pub struct Figures {
     /// A load and a dump of nearly the longest text.
     pub load: usize,
     pub dump: usize,
+    /// The same read, under as many leases as can be lent.
+    pub leased: usize,
 }
 
 impl fmt::Display for Figures {
@@ -52,6 +57,7 @@ impl fmt::Display for Figures {
         writeln!(out, "  {:>7}  deepest drop, a climb of {DEEPEST} links", self.drop)?;
         writeln!(out, "  {:>7}  a load of {IMAGE} bytes", self.load)?;
         writeln!(out, "  {:>7}  a dump of {IMAGE} bytes", self.dump)?;
+        writeln!(out, "  {:>7}  the deepest walk under {LEASES} leases", self.leased)?;
         writeln!(out, "  {BOUND:>7}  the bound that a test holds them to")?;
         write!(out, "A call that does nothing shows {}; less cannot be told apart.", self.floor)
     }
@@ -67,17 +73,20 @@ pub fn stack() -> io::Result<Figures> {
     let (bare, bare_token) = deepest_bare();
     let drop = Request::Drop { token: bare_token }.words();
     let (load, dump) = (images::load(IMAGE), images::dump(IMAGE));
-    let byte = &[0];
+    let (byte, proved) = (&[0], Call::Plain(served::proved));
+    let lease = Lease::of(token, 0, 1).expect("a number of the table").to_bytes();
+    let leases = lease.repeat(LEASES);
     let mut used = |call, world: &World, request, buffer: &[u8], refusal| {
-        used(&mut stack, Job::new(call, world, &request, buffer), refusal)
+        used(&mut stack, Job::new(call, world, &request, buffer, &leases), refusal)
     };
     Ok(Figures {
-        floor: used(served::nothing, &start, unknown, byte, 0)?,
-        shallowest: used(served::proved, &start, unknown, byte, 1)?,
-        walk: used(served::proved, &deep, read, byte, 0)?,
-        drop: used(served::proved, &bare, drop, byte, 0)?,
-        load: used(served::proved, &load.world, load.request, &load.buffer, 0)?,
-        dump: used(served::proved, &dump.world, dump.request, &dump.buffer, 0)?,
+        floor: used(Call::Plain(served::nothing), &start, unknown, byte, 0)?,
+        shallowest: used(proved, &start, unknown, byte, 1)?,
+        walk: used(proved, &deep, read, byte, 0)?,
+        drop: used(proved, &bare, drop, byte, 0)?,
+        load: used(proved, &load.world, load.request, &load.buffer, 0)?,
+        dump: used(proved, &dump.world, dump.request, &dump.buffer, 0)?,
+        leased: used(Call::Leased(served::proved_leased), &deep, read, byte, 0)?,
     })
 }
 
@@ -101,12 +110,13 @@ struct Job {
     world: World,
     buffer: Vec<u8>,
     answer: [u8; ANSWER_BYTES],
+    leases: Vec<u8>,
     /// An address in the caller's frame.
     frame: usize,
 }
 
 impl Job {
-    fn new(call: Call, world: &World, request: &Words, buffer: &[u8]) -> Job {
+    fn new(call: Call, world: &World, request: &Words, buffer: &[u8], leases: &[u8]) -> Job {
         Job {
             call,
             request: served::request_bytes(request),
@@ -114,6 +124,7 @@ impl Job {
             world: world.clone(),
             buffer: buffer.to_vec(),
             answer: [0; ANSWER_BYTES],
+            leases: leases.to_vec(),
             frame: 0,
         }
     }
@@ -121,19 +132,44 @@ impl Job {
 
 /// The bytes of stack below the caller's frame that one call uses. Its refusal must be the given one.
 fn used(stack: &mut Stack, mut job: Job, refusal: u8) -> io::Result<usize> {
-    let lowest = stack.run(routine, &mut job)?;
+    let lowest = match job.call {
+        Call::Plain(_) => stack.run(plain_routine, &mut job)?,
+        Call::Leased(_) => stack.run(leased_routine, &mut job)?,
+    };
     if job.answer[0] != refusal {
         return Err(io::Error::other(format!("refusal {}, not {refusal}", job.answer[0])));
     }
     Ok(job.frame - lowest)
 }
 
-extern "C" fn routine(job: *mut c_void) -> *mut c_void {
-    // The thread's starter lends a job to it alone, and waits for its end.
-    let job = unsafe { &mut *job.cast::<Job>() };
+/// Each function has a routine of its own, so that none makes room for the arguments of the other.
+extern "C" fn plain_routine(job: *mut c_void) -> *mut c_void {
+    let job = begun(job);
     let mark = 0u8;
     job.frame = ptr::from_ref(black_box(&mark)) as usize;
-    let World { table, memory, .. } = &mut job.world;
-    (job.call)(&job.request, &mut job.state, table, memory, &mut job.buffer, &mut job.answer);
+    let Job { call, request, state, world, buffer, answer, .. } = job;
+    let World { table, memory, .. } = world;
+    if let Call::Plain(call) = call {
+        call(request, state, table, memory, buffer, answer);
+    }
     ptr::null_mut()
+}
+
+extern "C" fn leased_routine(job: *mut c_void) -> *mut c_void {
+    let job = begun(job);
+    let mark = 0u8;
+    job.frame = ptr::from_ref(black_box(&mark)) as usize;
+    let Job { call, request, state, world, buffer, answer, leases, .. } = job;
+    let World { table, memory, .. } = world;
+    if let Call::Leased(call) = call {
+        call(request, state, table, memory, buffer, answer, leases);
+    }
+    ptr::null_mut()
+}
+
+/// The job of a thread.
+#[inline(always)]
+fn begun<'a>(job: *mut c_void) -> &'a mut Job {
+    // The thread's starter lends a job to it alone, and waits for its end.
+    unsafe { &mut *job.cast::<Job>() }
 }

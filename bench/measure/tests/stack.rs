@@ -6,7 +6,7 @@ use measure::{stack, BOUND};
 fn the_deepest_calls_stay_within_the_bound() {
     let figures = stack().expect("a thread on a stack of our own");
     assert!(figures.shallowest < figures.walk, "{figures}");
-    for most in [figures.walk, figures.drop, figures.load, figures.dump] {
+    for most in [figures.walk, figures.drop, figures.load, figures.dump, figures.leased] {
         assert!(most <= BOUND, "{figures}");
     }
 }

@@ -37,6 +37,11 @@ fn every_operation_and_every_access_has_a_row() {
             assert_eq!(text.lines().filter(|line| row(line)).count(), 2, "{way} {bytes}");
         }
     }
+    for leases in [0, 1, 64] {
+        let of = format!(" {leases} leases ");
+        let row = |line: &str| line.starts_with("read, leased") && line.contains(&of);
+        assert!(text.lines().any(row), "{of}");
+    }
     for way in ["read", "write", "fetch"] {
         for bytes in [1, 12, 64, 512, 4_096] {
             for depth in [0, 1, 8, 64] {

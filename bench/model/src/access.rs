@@ -11,10 +11,13 @@ use crate::refusal::{need, Refusal};
 use crate::token::Token;
 
 impl Machine<'_> {
-    /// The named entry, through places 2 to 5 and 7.
+    /// The named entry, through 16, places 2 to 5, 15 and place 7. 02, paper 4:
+    /// "15 closed, after the lock; 16 ... after place 1".
     #[inline(always)]
     pub fn opened(&self, request: &Request, right: u8) -> Result<Entry, Refusal> {
+        self.leases.need_sound()?;
         let (named, _) = self.table.line_for(request.token, request.task)?;
+        self.leases.need_open(Token::unpack(request.token), request.second)?;
         need(lie_within(right, named.entry.permissions), Refusal::Right)?;
         Ok(named.entry)
     }

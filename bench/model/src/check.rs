@@ -3,6 +3,7 @@
 
 use crate::hex::TEXT_LIMIT;
 use crate::interface::{Request, State};
+use crate::lease::WEEK;
 use crate::operation;
 use crate::refusal::{need, Refusal};
 use crate::token::Token;
@@ -41,10 +42,12 @@ pub fn words(request: &Request, buffer: usize) -> Result<(), Refusal> {
     let task = request.task < 1 << 55;
     let encoding = request.encoding <= 3;
     let permissions = request.permissions <= 7;
+    // 02, paper 4: "an access minute beyond the week is 1".
+    let minute = request.second < WEEK;
     let sound = match request.operation {
         // "1 to 4,096 bytes"
         operation::READ | operation::WRITE | operation::FETCH => {
-            task && (1..=4096).contains(&buffer)
+            task && minute && (1..=4096).contains(&buffer)
         }
         operation::CREATE => {
             plain(request.token) && task && request.length != 0 && permissions && encoding
@@ -55,9 +58,10 @@ pub fn words(request: &Request, buffer: usize) -> Result<(), Refusal> {
         operation::CLONE | operation::DROP => plain(request.token),
         // "lock or unlock with task 0 (task 0 means none)"
         operation::LOCK | operation::UNLOCK => plain(request.token) && task && request.task != 0,
-        // 02, paper 2: "at most 65,536 bytes of text, else 1".
-        operation::LOAD => plain(request.token) && task && buffer <= TEXT_LIMIT,
-        operation::DUMP => plain(request.token) && task,
+        // 02, paper 2: "at most 65,536 bytes of text, else 1"; paper 4: "Loads
+        // and dumps count as accesses."
+        operation::LOAD => plain(request.token) && task && minute && buffer <= TEXT_LIMIT,
+        operation::DUMP => plain(request.token) && task && minute,
         _ => false,
     };
     need(sound, Refusal::Request)

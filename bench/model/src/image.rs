@@ -32,7 +32,7 @@ impl Machine<'_> {
     /// "The reader checks the complete text and every record's bounds, then
     /// writes the data at its offsets."
     pub fn load(&mut self, request: &Request, text: &[u8]) -> Result<Answer, Refusal> {
-        // 12 and 13: "both after place 1".
+        // 12 and 13: "both after place 1", and by rising number before 16.
         let end = data_end(text)?;
         let whole = self.whole(request, W)?;
         let segment = self.memory.get_mut(whole).ok_or(Refusal::Bounds)?;

@@ -6,7 +6,8 @@ pub struct Request {
     pub operation: u64,
     /// The token; for a reset the first key word.
     pub token: u64,
-    /// A merge's second token, a derive's offset; for a reset the second key word.
+    /// A merge's second token, a derive's offset, the minute of an access (a load
+    /// or a dump too); for a reset the second key word.
     pub second: u64,
     /// The task; for a reset the first nonce.
     pub task: u64,

@@ -1,5 +1,5 @@
 //! A reference model of the Northcape northbridge: one function that serves a
-//! request over a state, a table, a memory and a buffer.
+//! request over a state, a table, a memory, a buffer and leases.
 //!
 //! It is total: whatever is handed over, it returns an answer. A refused
 //! request leaves state, table, memory and buffer as they were, since each
@@ -13,6 +13,7 @@ mod entry;
 mod hex;
 mod image;
 mod interface;
+mod lease;
 mod lock;
 mod machine;
 pub mod operation;
@@ -26,6 +27,7 @@ mod token;
 
 pub use interface::{Answer, Request, State};
 
+use lease::Leases;
 use machine::Machine;
 use permissions::{R, W, X};
 use refusal::Refusal;
@@ -38,8 +40,9 @@ pub fn serve(
     table: &mut [u8],
     memory: &mut [u8],
     buffer: &mut [u8],
+    leases: &[u8],
 ) -> Answer {
-    run(&request, state, table, memory, buffer).unwrap_or_else(Refusal::answer)
+    run(&request, state, table, memory, buffer, leases).unwrap_or_else(Refusal::answer)
 }
 
 fn run(
@@ -48,10 +51,12 @@ fn run(
     table: &mut [u8],
     memory: &mut [u8],
     buffer: &mut [u8],
+    leases: &[u8],
 ) -> Result<Answer, Refusal> {
     let (parts, odd) = table.as_chunks_mut::<32>();
     let entries = parts.len();
     check::sizes(entries, odd.len(), memory.len())?;
+    let leases = Leases::new(leases)?;
     if request.operation == operation::RESET {
         check::first_nonce(request.task)?;
     } else {
@@ -59,7 +64,7 @@ fn run(
         check::words(request, buffer.len())?;
     }
     let table = Table::new(parts, memory);
-    let mut machine = Machine { state, table, memory };
+    let mut machine = Machine { state, table, memory, leases };
     match request.operation {
         operation::RESET => Ok(machine.reset(request)),
         operation::READ => machine.read(request, R, buffer),

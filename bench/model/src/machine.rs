@@ -1,9 +1,10 @@
-//! The machine: state, table and memory together, with what issuing and
-//! freeing need.
+//! The machine: state, table, memory and leases together, with what issuing
+//! and freeing need.
 
 use crate::check::SPENT;
 use crate::entry::{Direct, Entry, Kind, Raw};
 use crate::interface::{Answer, Request, State};
+use crate::lease::Leases;
 use crate::permissions;
 use crate::refusal::{need, Refusal};
 use crate::siphash;
@@ -13,6 +14,7 @@ pub struct Machine<'a> {
     pub state: &'a mut State,
     pub table: Table<'a>,
     pub memory: &'a mut [u8],
+    pub leases: Leases<'a>,
 }
 
 impl Machine<'_> {

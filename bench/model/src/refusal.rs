@@ -18,6 +18,8 @@ pub enum Refusal {
     Malformed,
     Checksum,
     Room,
+    Closed,
+    Lease,
 }
 
 /// "for 3 and 4 whether the named entry or an ancestor was the bad one"
@@ -44,6 +46,8 @@ impl Refusal {
             Refusal::Malformed => 12,
             Refusal::Checksum => 13,
             Refusal::Room => 14,
+            Refusal::Closed => 15,
+            Refusal::Lease => 16,
         }
     }
 

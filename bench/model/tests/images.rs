@@ -565,7 +565,6 @@ fn words_of_the_requests() {
     let both = |change: &dyn Fn(&mut Request, &mut Rig)| (ask(LOAD, change), ask(DUMP, change));
     assert_eq!(both(&|_, _| ()), (0, 0));
     // Words that they do not use.
-    assert_eq!(both(&|request, _| request.second = u64::MAX), (0, 0));
     assert_eq!(both(&|request, _| request.length = u64::MAX), (0, 0));
     assert_eq!(both(&|request, _| request.user = u64::MAX), (0, 0));
     assert_eq!(both(&|request, _| request.permissions = u64::MAX), (0, 0));
@@ -579,6 +578,9 @@ fn words_of_the_requests() {
     }
     assert_eq!(both(&|request, _| request.token = 1 << 62), (0, 0));
     assert_eq!(both(&|request, _| request.token = 1 << 62 | 1), (2, 2));
+    // 02, paper 4: the minute.
+    assert_eq!(both(&|request, _| request.second = 10_079), (0, 0));
+    assert_eq!(both(&|request, _| request.second = 10_080), (1, 1));
     // State and sizes.
     assert_eq!(both(&|_, rig| rig.state.next = SPENT), (0, 0));
     assert_eq!(both(&|_, rig| rig.state.next = SPENT + 1), (1, 1));

@@ -41,26 +41,44 @@ fn named<'a>(term: &'a Term, definitions: &'a Definitions) -> &'a Term {
     definitions.get(term.word()).unwrap_or(term)
 }
 
-/// A request with the buffer that it brings.
-fn call(term: &Term, definitions: &Definitions) -> (Request, Vec<u8>) {
-    match term.call() {
-        ("plain", [asked]) => (request(asked), Vec::new()),
-        ("over", [buffer, asked]) => (request(asked), bytes(named(buffer, definitions))),
+/// A request with the buffer and the leases that it brings.
+fn call(term: &Term, definitions: &Definitions) -> (Request, Vec<u8>, Vec<u8>) {
+    let (buffer, asked) = match term.call() {
+        ("plain", [asked]) => (Vec::new(), asked),
+        ("over", [buffer, asked]) => (bytes(named(buffer, definitions)), asked),
         _ => panic!("no call: {term:?}"),
+    };
+    let (minute, leases) = shift(asked, definitions);
+    (request(asked, minute), buffer, leases)
+}
+
+/// The minute and the leases of an access, which stand last; 0 and none for another request.
+fn shift(term: &Term, definitions: &Definitions) -> (u64, Vec<u8>) {
+    let (name, words) = term.call();
+    if !["access", "load", "dump"].contains(&name) {
+        return (0, Vec::new());
+    }
+    let last = words.last().expect("an access has words");
+    match last.call() {
+        ("noShift", []) => (0, Vec::new()),
+        ("during", [minute, leases]) => (minute.number(), bytes(named(leases, definitions))),
+        _ => panic!("no shift: {term:?}"),
     }
 }
 
-fn request(term: &Term) -> Request {
+fn request(term: &Term, minute: u64) -> Request {
     let (name, words) = term.call();
     let way = match (name, words) {
         ("access", [way, ..]) => way.word(),
         _ => "",
     };
-    let n: Vec<u64> = words[usize::from(name == "access")..].iter().map(Term::number).collect();
+    let accesses = ["access", "load", "dump"].contains(&name);
+    let numbers = usize::from(name == "access")..words.len() - usize::from(accesses);
+    let n: Vec<u64> = words[numbers].iter().map(Term::number).collect();
     let empty = Request { token: n[0], ..Request::default() };
     match name {
         "reset" => Request { operation: RESET, second: n[1], task: n[2], ..empty },
-        "access" => Request { operation: way_of(way), task: n[1], ..empty },
+        "access" => Request { operation: way_of(way), second: minute, task: n[1], ..empty },
         "create" => Request {
             operation: CREATE,
             task: n[1],
@@ -85,8 +103,8 @@ fn request(term: &Term) -> Request {
         "lock" => Request { operation: LOCK, task: n[1], ..empty },
         "unlock" => Request { operation: UNLOCK, task: n[1], ..empty },
         "revoke" => Request { operation: REVOKE, encoding: n[1], ..empty },
-        "load" => Request { operation: LOAD, task: n[1], ..empty },
-        "dump" => Request { operation: DUMP, task: n[1], ..empty },
+        "load" => Request { operation: LOAD, second: minute, task: n[1], ..empty },
+        "dump" => Request { operation: DUMP, second: minute, task: n[1], ..empty },
         _ => panic!("no request: {term:?}"),
     }
 }
@@ -178,11 +196,11 @@ fn replay(session: &Term, definitions: &Definitions) -> usize {
     let rows = session.field("rows").list();
     for row in rows {
         let expected = told(row);
-        let (asked, mut buffer) = call(expected.call, definitions);
+        let (asked, mut buffer, leases) = call(expected.call, definitions);
         let mut memory: Vec<u8> = (1..=long).collect();
         let (mut left, mut back) = (memory.clone(), buffer.clone());
         carried(expected.effect, &mut left, &mut back);
-        let answer = serve(asked, &mut at, &mut entries, &mut memory, &mut buffer);
+        let answer = serve(asked, &mut at, &mut entries, &mut memory, &mut buffer, &leases);
         let said = (answer, [at.last, at.next, at.total], &memory, &buffer);
         assert_eq!(said, (expected.answer, expected.counters, &left, &back), "{row:?}");
     }
@@ -197,7 +215,7 @@ fn sessions_are_served_as_recorded() {
     let sessions: Vec<&Term> = lists.into_iter().flatten().collect();
     let rows: usize =
         sessions.iter().map(|name| replay(&definitions[name.word()], &definitions)).sum();
-    assert_eq!((sessions.len(), rows), (8, 217));
+    assert_eq!((sessions.len(), rows), (9, 265));
 }
 
 #[test]
@@ -213,8 +231,8 @@ fn limits_are_those_recorded() {
         let mut at = State { last, next, total, ..State::default() };
         let (mut memory, mut entries) =
             (vec![0; memory.number() as usize], vec![0; entries.number() as usize]);
-        let (asked, mut buffer) = call(asked, &definitions);
-        let answer = serve(asked, &mut at, &mut entries, &mut memory, &mut buffer);
+        let (asked, mut buffer, leases) = call(asked, &definitions);
+        let answer = serve(asked, &mut at, &mut entries, &mut memory, &mut buffer, &leases);
         assert_eq!(answer.refusal, refusal.number(), "{row:?}");
     }
     assert_eq!(rows.len(), 48);
@@ -230,8 +248,9 @@ fn bytes_move_as_recorded() {
         };
         let (mut at, mut entries) = (state(from), table(entries, &definitions));
         let (mut memory, mut back) = (bytes(memory), Vec::new());
-        for (asked, mut buffer) in calls.list().iter().map(|term| call(term, &definitions)) {
-            serve(asked, &mut at, &mut entries, &mut memory, &mut buffer);
+        for (asked, mut buffer, leases) in calls.list().iter().map(|term| call(term, &definitions))
+        {
+            serve(asked, &mut at, &mut entries, &mut memory, &mut buffer, &leases);
             back.extend(buffer);
         }
         assert_eq!((back, memory), (bytes(buffers), bytes(left)), "{row:?}");

@@ -1,7 +1,7 @@
 //! Anything may be handed over, and an answer comes back.
 
 mod common;
-use common::{record, Dice, Rig, SPENT};
+use common::{is_access, lease, record, Dice, Rig, SPENT};
 use model::operation::*;
 use model::Request;
 
@@ -21,7 +21,11 @@ fn any_request(dice: &mut Dice, tokens: &[u64]) -> Request {
     Request {
         operation,
         token: one,
-        second: if operation == DERIVE { number(dice, 20) } else { other },
+        second: match operation {
+            DERIVE => number(dice, 20),
+            _ if is_access(operation) => any_minute(dice),
+            _ => other,
+        },
         task: if dice.below(40) == 0 { 1 << 55 | dice.below(4) } else { dice.below(3) },
         length: number(dice, 40),
         user: dice.word(),
@@ -32,6 +36,30 @@ fn any_request(dice: &mut Dice, tokens: &[u64]) -> Request {
         },
         encoding: if dice.below(30) == 0 { dice.below(8) } else { dice.below(4) },
     }
+}
+
+/// A minute of the week, one in 64 times anything.
+fn any_minute(dice: &mut Dice) -> u64 {
+    match dice.below(64) {
+        0 => dice.word(),
+        1 => dice.one_of(&[0, 10_079]),
+        _ => dice.below(10_080),
+    }
+}
+
+/// Often none; else a few on these tokens, seldom an unsound one or a part of one.
+fn any_leases(dice: &mut Dice, tokens: &[u64]) -> Vec<u8> {
+    let mut leases = Vec::new();
+    for _ in 0..dice.below(8).saturating_sub(4) {
+        let (opening, closing) = (any_minute(dice) as u16, any_minute(dice) as u16);
+        leases.extend(lease(dice.one_of(tokens), opening, closing));
+    }
+    match dice.below(64) {
+        0 => leases.push(dice.word() as u8),
+        1 => leases.extend(lease(0, 10_080, 9)),
+        _ => {}
+    }
+    leases
 }
 
 /// The buffer that comes with a request: for a load mostly a text.
@@ -89,7 +117,7 @@ fn neighbour(rig: &Rig, token: u64) -> u64 {
 #[test]
 fn lists_from_reset() {
     let mut dice = Dice(7);
-    let mut seen = [0u64; 15];
+    let mut seen = [0u64; 17];
     let mut granted = [0u64; 15];
     for round in 0..60 {
         let (memory, entries) = (1 + dice.below(96) as usize, 2 + dice.below(9) as usize);
@@ -112,6 +140,7 @@ fn lists_from_reset() {
             if request.operation == RESET {
                 request.operation = DROP;
             }
+            rig.leases = any_leases(&mut dice, &tokens);
             let mut buffer = any_buffer(&mut dice, &request, 12);
             let answer = rig.ask_with(request, &mut buffer);
             // 02, paper 3: "the kept total equals a full count".
@@ -128,7 +157,7 @@ fn lists_from_reset() {
     }
     // Ill-formed entries are not reached from reset; all else is.
     assert_eq!(seen[3], 0);
-    for refusal in (0..15).filter(|&refusal| refusal != 3) {
+    for refusal in (0..17).filter(|&refusal| refusal != 3) {
         assert!(seen[refusal] > 0, "{refusal}: {seen:?}");
     }
     assert!(granted[1..].iter().all(|&times| times > 0), "{granted:?}");
@@ -137,20 +166,21 @@ fn lists_from_reset() {
 #[test]
 fn tables_and_states_that_nobody_reached() {
     let mut dice = Dice(8);
-    let mut seen = [0u64; 15];
-    for _ in 0..10_000 {
+    let mut seen = [0u64; 17];
+    for _ in 0..30_000 {
         let entries = dice.below(6) as usize;
         let mut rig = Rig::bare(dice.below(40) as usize, entries);
         if dice.below(20) == 0 {
             rig.table.push(0);
         }
         rig.state.key0 = dice.word();
-        rig.state.last = if dice.below(30) == 0 { dice.word() } else { dice.below(5) };
+        let inside = entries.max(1) as u64;
+        rig.state.last = if dice.below(30) == 0 { dice.word() } else { dice.below(inside) };
         rig.state.next = dice.one_of(&[1, 2, 9, SPENT - 1, SPENT, 4, 5, 6, 7]);
         if dice.below(30) == 0 {
             rig.state.next = dice.word();
         }
-        rig.state.total = if dice.below(30) == 0 { dice.word() } else { dice.below(5) };
+        rig.state.total = if dice.below(30) == 0 { dice.word() } else { dice.below(inside) };
         for number in 0..entries {
             let kind = dice.one_of(&[0, 1, 1, 2, 2, 2, 2, dice.0 >> 61]);
             rig.set(number, 0, 3, kind);
@@ -179,6 +209,7 @@ fn tables_and_states_that_nobody_reached() {
         let tokens: Vec<u64> = (0..10).map(|n| (n & 1) << 46 | (n >> 1) << 32).collect();
         for _ in 0..4 {
             let request = any_request(&mut dice, &tokens);
+            rig.leases = any_leases(&mut dice, &tokens);
             let mut buffer = any_buffer(&mut dice, &request, 6);
             let answer = rig.ask_with(request, &mut buffer);
             seen[answer.refusal as usize] += 1;
@@ -197,6 +228,8 @@ fn noise() {
         (rig.state.last, rig.state.next) =
             (dice.below(6), dice.one_of(&[0, 1, 77, SPENT, SPENT + 1]));
         rig.state.total = dice.one_of(&[0, 1, 2, 5, u64::MAX]);
+        rig.leases =
+            (0..dice.below(4) * 8 + dice.below(9) / 8).map(|_| dice.word() as u8).collect();
         let word = |dice: &mut Dice| match dice.below(4) {
             0 => u64::MAX,
             1 => dice.below(8),

@@ -26,8 +26,8 @@ pub fn answer_text(ask: &Ask, played: &Played) -> String {
     parts.join(", ")
 }
 
-/// What the refusal's number means; of a bad request, or bad text, also why it is bad, as far as the
-/// tool sees it.
+/// What the refusal's number means; of a bad request, bad text or leases, also why, as far as the tool
+/// sees it.
 fn refusal_text(played: &Played) -> String {
     let words = refusal_words(played.reply.refusal);
     if played.reply.refusal != Check::Request as u64 {
@@ -35,7 +35,8 @@ fn refusal_text(played: &Played) -> String {
     }
     let World { state, table, memory } = &played.before;
     let (state, table, memory) = (*state, table.len(), memory.len());
-    let lent = Lent { state, table, memory, buffer: played.buffer.len() };
+    let (buffer, leases) = (played.buffer.len(), played.leases.len());
+    let lent = Lent { state, table, memory, buffer, leases };
     match causes(&played.request, &lent).join("; ").as_str() {
         "" => format!("{words}, though nothing in it is bad"),
         causes => format!("{words}: {causes}"),

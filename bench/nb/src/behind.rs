@@ -15,7 +15,7 @@ pub fn ask(operation: Operation, token: &str, task: u64, buffer: Vec<u8>) -> Res
         let name = operation.name();
         return Err(Failure::Input(format!("{name}: expected {expected}, found '{token}'")));
     };
-    Ok(Ask { token, ..Ask::of(&Step { request, buffer }) })
+    Ok(Ask { token, ..Ask::of(&Step { request, buffer, leases: Vec::new() }) })
 }
 
 /// Asks the requests of a session, which must go as it says, and then one more.

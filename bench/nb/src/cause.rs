@@ -1,7 +1,7 @@
 //! Why a request is bad: refusal 1 is one number for many causes. A note of the tool, read off the
 //! request and what was lent with it; the answer stays 1.
 
-use bridge::{Argument, Operation, State, Words};
+use bridge::{Argument, Operation, State, Words, LEASES_BYTES, LEASE_BYTES, WEEK};
 use session::entry::SIZE;
 use session::token::Token;
 
@@ -18,11 +18,12 @@ pub struct Lent {
     pub table: usize,
     pub memory: usize,
     pub buffer: usize,
+    pub leases: usize,
 }
 
 /// Every cause for which a request is refused with 1; none if it is not.
 pub fn causes(request: &Words, lent: &Lent) -> Vec<String> {
-    let mut causes = of_sizes(lent);
+    let mut causes = [of_sizes(lent), of_leases(lent.leases)].concat();
     let Some(operation) = Operation::of(request.operation) else {
         causes.push(format!("there is no operation {}", request.operation));
         return causes;
@@ -79,6 +80,8 @@ fn of_argument(argument: Argument, request: &Words) -> Option<String> {
         Argument::Task | Argument::Holder => {
             (task >= TASKS).then(|| format!("the task {task:#x} is not below 2^55"))
         }
+        Argument::Minute => (second >= WEEK)
+            .then(|| format!("the minute {second} is not one of the week, 0 to {}", WEEK - 1)),
         Argument::FirstNonce => (task == 0 || task >= SPENT)
             .then(|| format!("the first nonce {task} is not from 1 to {}", SPENT - 1)),
         Argument::Length => (length == 0).then(|| "the length is 0".to_string()),
@@ -97,6 +100,17 @@ fn of_buffer(operation: Operation, length: usize) -> Option<String> {
         0 => Some("the buffer is empty".to_string()),
         _ => Some(format!("the buffer has {length} bytes, of at most {}", lengths.end())),
     }
+}
+
+fn of_leases(length: usize) -> Vec<String> {
+    let odd = length % LEASE_BYTES;
+    that_hold([
+        (odd != 0, format!("the leases end {odd} bytes behind a whole one")),
+        (
+            length > LEASES_BYTES,
+            format!("the leases have {length} bytes, of at most {LEASES_BYTES}"),
+        ),
+    ])
 }
 
 fn of_offset(which: &str, word: u64) -> Option<String> {

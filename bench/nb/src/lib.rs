@@ -13,6 +13,7 @@ pub mod note;
 pub mod outcome;
 pub mod page;
 pub mod report;
+pub mod shift;
 pub mod stop;
 pub mod stored;
 pub mod style;

@@ -1,14 +1,21 @@
-//! Why a load or a dump was refused: a note of the tool, read off the text and what stood before.
+//! Why a request was refused, beside what is bad in its words: a note of the tool, read off its text, its
+//! leases and what stood before.
 
-use crate::hex;
-use bridge::{text_length, Buffer, Check, Operation, TEXT_BYTES};
+use crate::{hex, shift};
+use bridge::{text_length, Buffer, Check, Operation, Words, TEXT_BYTES};
 use session::entry::Entry;
 use session::play::Played;
 use session::token::Token;
 
-/// The note on a refused load or dump; none for other requests, or where there is nothing to tell.
+/// The note on a refused load or dump, or on leases; none where there is nothing to tell.
 pub fn note(played: &Played) -> Option<String> {
     let check = Check::of(played.reply.refusal)?;
+    let Words { token, second: minute, .. } = played.request;
+    match check {
+        Check::Lease => return shift::bad_lease(&played.leases),
+        Check::Closed => return shift::closed(&played.leases, token, minute),
+        _ => {}
+    }
     match (Operation::of(played.request.operation)?.buffer(), check) {
         (Buffer::Text, Check::Malformed | Check::Checksum) => of_line(check, &played.buffer),
         (Buffer::Text, Check::Bounds) => of_reach(played),

@@ -4,7 +4,7 @@ use std::io::{self, Write};
 
 use crate::answer::answer_text;
 use crate::style::Style;
-use bridge::Operation;
+use bridge::{Operation, LEASES_BYTES};
 use session::play::{Difference, NoAnswer, Played};
 use session::text::{print_request, Ask, Script};
 
@@ -15,7 +15,7 @@ pub struct Sum {
     pub requests: usize,
     pub expected: usize,
     pub differing: usize,
-    /// Requests behind one that got no answer, and those whose buffer cannot be lent.
+    /// Requests behind one that got no answer, and those whose buffer or leases cannot be lent.
     pub unasked: usize,
 }
 
@@ -45,11 +45,13 @@ impl Sum {
     }
 }
 
-/// An access or a load with so long a buffer is refused, and so changes nothing for those behind it.
+/// A request with so many leases, or an access or a load with so long a buffer, is refused, and so
+/// changes nothing for those behind it.
 fn is_refused(ask: &Ask) -> bool {
     let lengths = |operation: Operation| operation.buffer().lengths();
-    Operation::of(ask.words.operation)
-        .is_some_and(|operation| !lengths(operation).contains(&ask.buffer.len()))
+    let long = Operation::of(ask.words.operation)
+        .is_some_and(|operation| !lengths(operation).contains(&ask.buffer.len()));
+    long || ask.leases.length() > LEASES_BYTES
 }
 
 pub fn verdict_text(sum: &Sum, style: Style) -> String {

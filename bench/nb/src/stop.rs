@@ -50,6 +50,8 @@ pub fn stop(request: &Words, table: &[u8], memory: usize, refusal: u64) -> Optio
         // These are about no entry.
         Check::Request | Check::Numbers | Check::Nonces => None,
         Check::Malformed | Check::Checksum | Check::Room => None,
+        // These are about leases, which no entry knows of.
+        Check::Closed | Check::Lease => None,
     }
 }
 

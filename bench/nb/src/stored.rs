@@ -101,6 +101,7 @@ pub fn all() -> Vec<Stored> {
         "order-lock-drop-revoke",
         "order-load",
         "order-total",
+        "order-lease",
         "reset-again",
         "deep-line",
         "load-image",
@@ -113,5 +114,11 @@ pub fn all() -> Vec<Stored> {
         "total-wrong-high",
         "total-number-zero",
         "total-climb",
+        "lease-windows",
+        "lease-several",
+        "lease-derived",
+        "lease-bad",
+        "lease-sizes",
+        "lease-others",
     ]
 }

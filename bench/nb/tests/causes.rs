@@ -3,11 +3,12 @@
 use std::cell::Cell;
 use std::rc::Rc;
 
+use bridge::Lent as Slices;
 use bridge::{Check, Operation, Reply, State, Words};
 use compare::{compare, Machine, Options, Pair, Proved, Trouble};
 use nb_tool::answer::answer_text;
 use nb_tool::cause::{causes, Lent};
-use nb_tool::hex;
+use nb_tool::{hex, shift};
 use session::play::Player;
 use session::server::Proved as Server;
 use session::text::parse;
@@ -26,6 +27,21 @@ fn text_is_judged(reply: &Reply, text: &[u8]) {
     assert_eq!(found, told, "{fault:?}\n{}", String::from_utf8_lossy(text));
 }
 
+/// The tool finds a bad lease, or closed ones, if and only if the request is refused for them: of one
+/// that is granted it finds neither.
+fn leases_are_judged(request: &Words, reply: &Reply, leases: &[u8]) {
+    let bad = shift::bad_lease(leases);
+    let closed = shift::closed(leases, request.token, request.second);
+    let told = (Check::of(reply.refusal), bad.is_some(), closed.is_some());
+    let right = match told {
+        (Some(Check::Lease), bad, _) => bad,
+        (Some(Check::Closed), bad, closed) => closed && !bad,
+        (None, bad, closed) => !closed && !bad,
+        _ => true,
+    };
+    assert!(right, "{request:?}: {reply:?} {bad:?} {closed:?}");
+}
+
 impl Machine for Judged {
     fn name(&self) -> &str {
         "judged proved code"
@@ -35,14 +51,21 @@ impl Machine for Judged {
         self.0.begin(world)
     }
 
-    fn serve(&mut self, request: &Words, buffer: &mut [u8]) -> Result<Reply, Trouble> {
+    fn serve(&mut self, request: &Words, slices: Slices) -> Result<Reply, Trouble> {
+        let Slices { buffer, leases } = slices;
         let (table, memory) = (self.table().len(), self.memory().len());
-        let lent = Lent { state: self.state(), table, memory, buffer: buffer.len() };
-        let reply = self.0.serve(request, buffer)?;
+        let (state, leased) = (self.state(), leases.len());
+        let lent = Lent { state, table, memory, buffer: buffer.len(), leases: leased };
+        let reply = self.0.serve(request, Slices { buffer, leases })?;
         let found = causes(request, &lent);
         let bad = reply.refusal == Check::Request as u64;
         assert_eq!(bad, !found.is_empty(), "{request:?} {lent:?}: {reply:?} {found:?}");
-        if request.operation == Operation::Load as u64 && !bad {
+        if Operation::of(request.operation).is_some_and(Operation::is_leased) {
+            leases_are_judged(request, &reply, leases);
+        }
+        let of_text = [Check::Lease, Check::Closed].map(|check| check as u64);
+        let reached = !bad && !of_text.contains(&reply.refusal);
+        if request.operation == Operation::Load as u64 && reached {
             self.1.set(self.1.get() + 1);
             text_is_judged(&reply, buffer);
         }
@@ -101,6 +124,11 @@ fn each_cause_has_its_words() {
     holds("revoke root encoding 4", "the encoding 4 is above 3");
     holds("reset nonce 0", "the first nonce 0 is not from 1 to 4294967295");
     holds("operation 15", "there is no operation 15");
+    let minute = "the minute 10080 is not one of the week, 0 to 10079";
+    holds("read root 1 minute 10080", minute);
+    holds("load root :00000001FF minute 10080", minute);
+    holds("dump root 64 leases 00*9", "the leases end 1 bytes behind a whole one");
+    holds("fetch root 1 leases root=1..2*65", "the leases have 520 bytes, of at most 512");
     let both = "the length is 0; the permissions 9 are above 7";
     holds("derive root length 0 permissions 9", both);
 }
@@ -125,4 +153,26 @@ fn sizes_and_settings_have_their_words() {
     let both =
         "the state's next nonce 0 is not from 1 to 4294967296; the state's free total 9 is above 3";
     holds("memory 8 entries 4\nstate total 9\nclone root", both);
+}
+
+#[test]
+fn leases_have_their_words() {
+    let holds = |line: &str, expected: &str| {
+        let answer = answer(&format!("memory 64 entries 4\nreset nonce 1 -> 0\n{line}\n"));
+        assert_eq!(answer, expected, "{line}");
+    };
+    let closed = "15 closed: at minute 840 (Mon 14:00), of 360..840 (Mon 06:00 to Mon 14:00)";
+    holds("write root 00 minute 840 leases root=360..840", closed);
+    let over = "15 closed: at minute 60 (Mon 01:00), of 10020..0 (Sun 23:00 to Mon 00:00), \
+                7200..8640 (Sat 00:00 to Sun 00:00)";
+    holds("read root 1 minute 60 leases root=10020..0 @1:1=0..9 root=7200..8640", over);
+    let four = "15 closed: at minute 0 (Mon 00:00), of 1..2 (Mon 00:01 to Mon 00:02), \
+                1..2 (Mon 00:01 to Mon 00:02), 1..2 (Mon 00:01 to Mon 00:02) and 1 more";
+    holds("read root 1 leases root=1..2*4", four);
+    let equal = "16 bad lease: lease 2 of 3, @5:0x1234=60..60, has equal minutes";
+    holds("read root 1 leases root=1..2 @5:0x1234=60..60 root=9..9", equal);
+    let opens = "16 bad lease: lease 1 of 1, root=10080..5, opens at minute 10080, beyond 10079";
+    holds("read root 1 leases root=10080..5", opens);
+    let closes = "16 bad lease: lease 1 of 1, root=5..10080, closes at minute 10080, beyond 10079";
+    holds("read root 1 leases root=5..10080", closes);
 }

@@ -100,7 +100,7 @@ fn bad_files_are_status_2_with_line_and_column() {
     let text = "memory 64 entries 4\nreset nonce 1\nread root 1 tsak 7\n";
     let (status, out, error) = run(&["replay", "-"], text);
     assert_eq!((status, out.as_str()), (2, ""));
-    assert!(error.contains("line 3, column 13: expected 'task'"), "{error}");
+    assert!(error.contains("line 3, column 13: expected 'minute', 'task'"), "{error}");
     assert!(error.contains("found 'tsak'"), "{error}");
 }
 
@@ -204,7 +204,7 @@ fn record_makes_a_session_exact() {
 fn the_version_is_told() {
     let (status, text, _) = run(&["--version"], "");
     let version = env!("CARGO_PKG_VERSION");
-    assert_eq!((status, text), (0, format!("nb {version}, line protocol northbridge 3\n")));
+    assert_eq!((status, text), (0, format!("nb {version}, line protocol northbridge 4\n")));
 }
 
 #[test]

@@ -1,6 +1,6 @@
 //! Where a refused request stopped: an entry is told exactly for the refusals that are about one.
 
-use bridge::{Check, Place, Reply, State, Words};
+use bridge::{Check, Lent, Place, Reply, State, Words};
 use compare::{compare, Machine, Options, Pair, Proved, Trouble};
 use nb_tool::stop::{named, stop};
 use session::World;
@@ -31,8 +31,8 @@ impl Machine for Judged {
         self.0.begin(world)
     }
 
-    fn serve(&mut self, request: &Words, buffer: &mut [u8]) -> Result<Reply, Trouble> {
-        let reply = self.0.serve(request, buffer)?;
+    fn serve(&mut self, request: &Words, lent: Lent) -> Result<Reply, Trouble> {
+        let reply = self.0.serve(request, lent)?;
         // A refused request changed nothing.
         if reply.refusal != 0 {
             Judged::holds(request, self.table(), self.memory().len(), &reply);

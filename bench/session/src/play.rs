@@ -1,14 +1,14 @@
 //! Playing a script: asking its requests one by one, and comparing what is expected.
 
 use crate::entry::Entry;
-use crate::server::{Server, Trouble};
+use crate::server::{Longest, Server, Trouble};
 use crate::text::{
     buffer_text, changes, print_standing, token_text, Ask, EntryLine, Expected, Names, Script,
     Standing, Unresolved, Word,
 };
 use crate::token::Token;
 use crate::world::World;
-use bridge::{refusal_words, Operation, Place, Reply, Words};
+use bridge::{refusal_words, Lent, Operation, Place, Reply, Words};
 use std::fmt;
 
 /// What came of one request.
@@ -20,6 +20,8 @@ pub struct Played {
     pub reply: Reply,
     /// What stands in the buffer afterwards.
     pub buffer: Vec<u8>,
+    /// The leases that were lent.
+    pub leases: Vec<u8>,
     pub changes: Vec<Standing>,
     pub differences: Vec<Difference>,
 }
@@ -29,8 +31,8 @@ pub struct Played {
 pub enum NoAnswer {
     /// It was not asked, since a name in it stands for no token.
     Unresolved(Unresolved),
-    /// It was not asked, since such a buffer cannot be lent to who serves.
-    TooLong { length: usize, longest: usize },
+    /// It was not asked, since so much cannot be lent to who serves.
+    TooLong { part: &'static str, length: usize, longest: usize },
     /// It was asked in vain.
     Trouble(Trouble),
 }
@@ -51,8 +53,8 @@ impl fmt::Display for NoAnswer {
     fn fmt(&self, to: &mut fmt::Formatter) -> fmt::Result {
         match self {
             NoAnswer::Unresolved(unresolved) => write!(to, "not asked: {unresolved}"),
-            NoAnswer::TooLong { length, longest } => {
-                write!(to, "not asked: its buffer has {length} bytes, of at most {longest}")
+            NoAnswer::TooLong { part, length, longest } => {
+                write!(to, "not asked: its {part} has {length} bytes, of at most {longest}")
             }
             NoAnswer::Trouble(trouble) => write!(to, "no answer: {}", trouble.message()),
         }
@@ -92,25 +94,25 @@ impl<'a, S: Server + ?Sized> Player<'a, S> {
 
     /// Asks one request. A request with a name that nobody gave is not asked.
     pub fn play(&mut self, ask: &Ask) -> Result<Played, NoAnswer> {
-        let request = ask.resolve(&self.names)?;
-        let (length, longest) = (ask.buffer.len(), self.server.longest());
-        if length > longest {
-            return Err(NoAnswer::TooLong { length, longest });
-        }
+        let (request, leases) = (ask.resolve(&self.names)?, ask.leases.resolve(&self.names)?);
+        let Longest { buffer: longest_buffer, leases: longest_leases } = self.server.longest();
+        fits("buffer", ask.buffer.len(), longest_buffer)?;
+        fits("table of leases", leases.len(), longest_leases)?;
         if !self.begun {
             self.server.begin(&self.world)?;
             self.begun = true;
         }
         let before = self.world.clone();
         let mut buffer = ask.buffer.clone();
-        let reply = self.server.serve(&request, &mut self.world, &mut buffer)?;
+        let lent = Lent { buffer: &mut buffer, leases: &leases };
+        let reply = self.server.serve(&request, &mut self.world, lent)?;
         let given = given(&request, &reply, &self.world);
         ask.add_names(given, &mut self.names);
         let mut differences = self.answer_differences(ask, &reply, &buffer);
         differences.extend(nothing_to_name(ask, &reply, given));
         differences.extend(self.standing_differences(ask, &before));
         let changes = changes(&before, &self.world);
-        Ok(Played { before, request, reply, buffer, changes, differences })
+        Ok(Played { before, request, reply, buffer, leases, changes, differences })
     }
 
     /// Where answer and buffer are not as expected.
@@ -184,6 +186,14 @@ impl<'a, S: Server + ?Sized> Player<'a, S> {
             })
         });
         stated.collect()
+    }
+}
+
+/// Whether so many bytes of a part can be lent.
+fn fits(part: &'static str, length: usize, longest: usize) -> Result<(), NoAnswer> {
+    match length <= longest {
+        true => Ok(()),
+        false => Err(NoAnswer::TooLong { part, length, longest }),
     }
 }
 

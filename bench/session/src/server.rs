@@ -1,7 +1,7 @@
 //! Who serves requests: the proved code and the model, in this process, or whatever else is attached.
 //! Here alone the model's types stand beside the wrapper's.
 
-use bridge::{Reply, State, Words};
+use bridge::{Lent, Reply, State, Words};
 
 use crate::world::World;
 
@@ -22,6 +22,13 @@ impl Trouble {
     }
 }
 
+/// How many bytes can be lent with a request at most.
+#[derive(Clone, Copy, Debug, PartialEq, Eq)]
+pub struct Longest {
+    pub buffer: usize,
+    pub leases: usize,
+}
+
 /// Whoever serves requests: the proved code, the model, a simulator.
 pub trait Server {
     /// Takes over what stands at a session's start; nothing to do for one that keeps no world.
@@ -29,31 +36,21 @@ pub trait Server {
         Ok(())
     }
 
-    /// How many bytes a buffer may have at most that is lent to it.
-    fn longest(&self) -> usize {
-        usize::MAX
+    /// How many bytes a buffer may have at most that is lent to it, and how many leases.
+    fn longest(&self) -> Longest {
+        Longest { buffer: usize::MAX, leases: usize::MAX }
     }
 
     /// Serves one request over the world, which is as the last one left it.
-    fn serve(
-        &mut self,
-        request: &Words,
-        world: &mut World,
-        buffer: &mut [u8],
-    ) -> Result<Reply, Trouble>;
+    fn serve(&mut self, request: &Words, world: &mut World, lent: Lent) -> Result<Reply, Trouble>;
 }
 
 /// The proved code.
 pub struct Proved;
 
 impl Server for Proved {
-    fn serve(
-        &mut self,
-        request: &Words,
-        world: &mut World,
-        buffer: &mut [u8],
-    ) -> Result<Reply, Trouble> {
-        Ok(world.serve(request, buffer))
+    fn serve(&mut self, request: &Words, world: &mut World, lent: Lent) -> Result<Reply, Trouble> {
+        Ok(world.serve(request, lent))
     }
 }
 
@@ -61,15 +58,11 @@ impl Server for Proved {
 pub struct Model;
 
 impl Server for Model {
-    fn serve(
-        &mut self,
-        request: &Words,
-        world: &mut World,
-        buffer: &mut [u8],
-    ) -> Result<Reply, Trouble> {
+    fn serve(&mut self, request: &Words, world: &mut World, lent: Lent) -> Result<Reply, Trouble> {
         let World { state, table, memory } = world;
+        let Lent { buffer, leases } = lent;
         let mut kept = model_state(state);
-        let answer = model::serve(model_request(request), &mut kept, table, memory, buffer);
+        let answer = model::serve(model_request(request), &mut kept, table, memory, buffer, leases);
         *state = state_of_model(&kept);
         Ok(reply_of_model(&answer))
     }

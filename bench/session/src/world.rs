@@ -1,6 +1,6 @@
 //! What a request works on, and sessions over it.
 
-use bridge::{Reply, State, Words};
+use bridge::{Lent, Reply, State, Words};
 
 /// What a request works on: the state, the table and the memory.
 #[derive(Clone, Debug, PartialEq, Eq)]
@@ -17,8 +17,8 @@ impl World {
     }
 
     /// Serves one request by the proved code.
-    pub fn serve(&mut self, request: &Words, buffer: &mut [u8]) -> Reply {
-        bridge::serve(request, &mut self.state, &mut self.table, &mut self.memory, buffer)
+    pub fn serve(&mut self, request: &Words, lent: Lent) -> Reply {
+        bridge::serve_lent(request, &mut self.state, &mut self.table, &mut self.memory, lent)
     }
 
     /// Takes over another world, without giving room back.
@@ -35,11 +35,20 @@ pub fn replace(place: &mut Vec<u8>, bytes: &[u8]) {
     place.extend_from_slice(bytes);
 }
 
-/// A request and the buffer lent with it.
+/// A request and what is lent with it.
 #[derive(Clone, Debug, PartialEq, Eq)]
 pub struct Step {
     pub request: Words,
     pub buffer: Vec<u8>,
+    pub leases: Vec<u8>,
+}
+
+impl Step {
+    /// Serves it by the proved code; the buffer that it leaves is not kept.
+    pub fn serve(&self, world: &mut World) -> Reply {
+        let mut buffer = self.buffer.clone();
+        world.serve(&self.request, Lent { buffer: &mut buffer, leases: &self.leases })
+    }
 }
 
 /// A start and requests; each works on what the last one left.

@@ -183,3 +183,20 @@ fn columns_count_characters() {
     holds("memory 64 entries 4\nread é 1\n", (2, 6), "a token", "'é'");
     holds("memory 64 entries 4\nreset nonce 1 é 2\n", (2, 15), "'key', 'nonce', 'task'", "'é'");
 }
+
+#[test]
+fn leases_that_cannot_be_read() {
+    let expected = "leases: 'TOKEN=OPENING..CLOSING'";
+    for word in ["root", "root=5", "root=1..65536", "root=1..", "two=1..2", "@65536:1/1=1..2", "0"]
+    {
+        holds_in(&format!("read root 1 leases {word}"), 20, expected, "");
+    }
+    holds_in("read root 1 leases", 19, expected, "the line's end");
+    holds_in("read root 1 leases root=1..2*9999999", 20, "at most 67108864 bytes", "root=");
+    holds_in("read root 1 leases root=1..2 5", 30, "'leases' or '->'", "'5'");
+    holds_in("read root 1 leases 00 leases 00", 23, "'leases' once only", "'leases'");
+    holds_in("clone root minute 5", 12, "'second', 'buffer', 'leases' or '->'", "'minute'");
+    holds_in("read root 1 minute x", 20, "a minute of the week", "'x'");
+    holds_in("revoke root -> 0 as leases", 21, "no word of a request", "'leases'");
+    holds_in("revoke root -> 0 as minute", 21, "no word of a request", "'minute'");
+}

@@ -1,7 +1,7 @@
 //! What is printed is read again as the same session.
 
 mod common;
-use bridge::{Check, Operation};
+use bridge::{Check, Lease, Operation, Token, WEEK};
 use common::Dice;
 use session::text::{parse, print, print_with};
 use session::{Session, World};
@@ -45,7 +45,7 @@ fn random_sessions_with_random_replies() {
 #[test]
 fn sessions_as_served() {
     let mut dice = Dice(3);
-    let mut named = 0;
+    let (mut named, mut leased) = (0, 0);
     for _ in 0..300 {
         let mut session = Session { world: World::zeros(8 * 32, 4096), steps: Vec::new() };
         let (mut world, mut replies, mut tokens) = (session.world.clone(), Vec::new(), vec![0]);
@@ -58,15 +58,20 @@ fn sessions_as_served() {
             step.request.task = if at == 0 { 1 } else { 0 };
             (step.request.length, step.request.encoding) = (dice.below(300), dice.below(4));
             (step.request.user, step.request.permissions) = (dice.below(2), 7);
-            replies.push(world.serve(&step.request, &mut step.buffer.clone()));
+            let leased = tokens[dice.below(tokens.len() as u64) as usize];
+            let lease =
+                Lease::of(Token(leased), 0, WEEK as u16 - 1).expect("a number of the table");
+            step.leases = lease.to_bytes().repeat(dice.below(3) as usize);
+            replies.push(step.serve(&mut world));
             tokens.extend([replies[at].first, replies[at].second]);
             session.steps.push(step);
         }
         let text = print_with(&session, &replies);
         assert!(read_again(&text) == session, "{text}");
         named += text.matches("rest").count();
+        leased += text.matches("=0..10079").filter(|_| text.contains("leases child")).count();
     }
-    assert!(named > 100);
+    assert!(named > 100 && leased > 100, "{named} {leased}");
 }
 
 #[test]

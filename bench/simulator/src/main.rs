@@ -4,11 +4,11 @@
 //! the standard input, and each is answered by one line on the standard output:
 //!
 //! ```text
-//! northbridge 3                                   northbridge 3
+//! northbridge 4                                   northbridge 4
 //! world TABLE MEMORY KEY0 KEY1 LAST NEXT TOTAL    ok
 //! table AT BYTES                                  ok
 //! memory AT BYTES                                 ok
-//! serve WORD0 .. WORD7 BUFFER                     answer REFUSAL PLACE FIRST SECOND DROPPED LENGTH
+//! serve WORD0 .. WORD7 BUFFER LEASES              answer REFUSAL PLACE FIRST SECOND DROPPED LENGTH
 //!                                                        KEY0 KEY1 LAST NEXT TOTAL BUFFER
 //! show-table AT LENGTH                            bytes BYTES
 //! show-memory AT LENGTH                           bytes BYTES
@@ -32,8 +32,8 @@ struct World {
     memory: Vec<u8>,
 }
 
-/// No line of the bench has more characters: 69,632 bytes, two digits each, and words before them.
-const LINE: u64 = 139_520;
+/// No line of the bench has more characters: 70,656 bytes, two digits each, and words before them.
+const LINE: u64 = 141_568;
 
 /// No table or memory of the bench has more bytes.
 const WORLD: u64 = 1 << 28;
@@ -56,15 +56,15 @@ fn main() -> io::Result<()> {
 fn answer(world: &mut World, line: &str) -> Result<String, String> {
     let words: Vec<&str> = line.split_whitespace().collect();
     match words[..] {
-        ["northbridge", "3"] => Ok("northbridge 3".to_string()),
-        ["northbridge", ..] => Err("expected version 3".to_string()),
+        ["northbridge", "4"] => Ok("northbridge 4".to_string()),
+        ["northbridge", ..] => Err("expected version 4".to_string()),
         ["world", ref rest @ ..] => begin(world, rest),
         ["table", at, text] => put(&mut world.table, at, text),
         ["memory", at, text] => put(&mut world.memory, at, text),
-        ["serve", ref rest @ .., buffer] => ask(world, rest, buffer),
+        ["serve", ref rest @ .., buffer, leases] => ask(world, rest, buffer, leases),
         ["show-table", at, length] => show(&world.table, at, length),
         ["show-memory", at, length] => show(&world.memory, at, length),
-        _ => Err("expected northbridge 3, world, table, memory, serve or show".to_string()),
+        _ => Err("expected northbridge 4, world, table, memory, serve or show".to_string()),
     }
 }
 
@@ -87,12 +87,12 @@ fn put(place: &mut [u8], at: &str, text: &str) -> Result<String, String> {
     Ok("ok".to_string())
 }
 
-fn ask(world: &mut World, words: &[&str], buffer: &str) -> Result<String, String> {
+fn ask(world: &mut World, words: &[&str], buffer: &str, leases: &str) -> Result<String, String> {
     let [operation, token, second, task, length, user, permissions, encoding] = numbers(words)?;
     let request = Request { operation, token, second, task, length, user, permissions, encoding };
-    let mut buffer = bytes(buffer)?;
+    let (mut buffer, leases) = (bytes(buffer)?, bytes(leases)?);
     let World { state, table, memory } = world;
-    let answer = serve(request, state, table, memory, &mut buffer);
+    let answer = serve(request, state, table, memory, &mut buffer, &leases);
     let model::Answer { refusal, place, first, second, dropped, length } = answer;
     let State { key0, key1, last, next, total } = *state;
     let mut line = "answer".to_string();

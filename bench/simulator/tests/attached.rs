@@ -75,9 +75,9 @@ fn an_answer_without_an_end_is_a_difference() {
                    north*) echo $line;; *) echo ok;; esac; done";
     let outcome = against(endless, 100).expect("a run");
     let told = trouble(&outcome);
-    assert!(told.contains("'xxx") && told.contains("at most 139520 characters"), "{told}");
+    assert!(told.contains("'xxx") && told.contains("at most 141568 characters"), "{told}");
     let error = against("yes x | tr -d '\\n'", 100).unwrap_err();
-    assert!(error.contains("at most 139520 characters"), "{error}");
+    assert!(error.contains("at most 141568 characters"), "{error}");
 }
 
 /// The line that got no answer is told, and how long it was waited for.
@@ -97,7 +97,7 @@ fn silence_is_a_difference() {
 fn a_command_that_says_nothing_at_all() {
     let options = Options { against: Some("sleep 1000".to_string()), ..Options::default() };
     let error = run(&Options { wait: Duration::from_millis(300), ..options }).unwrap_err();
-    let told = "kept silent for 0.3 s when asked 'northbridge 3'";
+    let told = "kept silent for 0.3 s when asked 'northbridge 4'";
     assert!(error.contains(told) && error.contains("--wait"), "{error}");
 }
 
@@ -110,5 +110,5 @@ fn a_command_that_is_not_there() {
 #[test]
 fn a_command_that_does_not_speak_the_protocol() {
     let error = against("echo hello", 10).unwrap_err();
-    assert!(error.contains("'hello' to 'northbridge 3': expected northbridge 3"), "{error}");
+    assert!(error.contains("'hello' to 'northbridge 4': expected northbridge 4"), "{error}");
 }

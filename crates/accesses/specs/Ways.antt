@@ -8,6 +8,8 @@ use lib.ListN.{length}
 use Rattle.tokens.specs.Token.{named}
 use Rattle.checks.specs.Holds.{requestHolds}
 use Rattle.checks.specs.Refusals.{stopAs}
+use Rattle.checks.specs.Shifts.{judgedFor}
+use Rattle.leases.specs.declared.lease.Window.{Window}
 use Rattle.machine.specs.Operations.{fetch, namedEntry, transfer}
 use Rattle.machine.specs.Parts.{State}
 use Rattle.machine.specs.Requests as request
@@ -42,12 +44,14 @@ Begins (From x) v a = (v ≡ pass) × (x ≡ a)
 
 -- what the right and the bounds come to, for a buffer of so many bytes, whatever else the request carries
 abbrev pub Transfers : Transfer → List ℕ → request.Way → (token bytes : ℕ) → Type 0
-Transfers r t w k n = (m u : ℕ) (s : State) (b : List ℕ) → length b ≡ n → Begins r (verdict (places m s t (request.access w k u) b .rest)) (startOf t k)
+Transfers r t w k n =
+    (m u : ℕ) (s : State) (φ : request.Shift) (b : List ℕ) → length b ≡ n → Begins r (verdict (places m s t (request.access w k u φ) b .rest)) (startOf t k)
 
--- what all places but 1 come to, for a buffer of so many bytes, in every state
-abbrev pub Carries : Transfer → ℕ → List ℕ → request.Way → (token task bytes : ℕ) → Type 0
-Carries r m t w k u n =
-    (s : State) (b : List ℕ) → length b ≡ n → requestHolds m s t (request.access w k u) b ≡ true → Begins r (verdictOn m s t (request.access w k u) b) (startOf t k)
+-- what all places but 1 come to, where the leases come to j, for a buffer of so many bytes, in every state
+abbrev pub Carries : Transfer → Window → ℕ → List ℕ → request.Way → (token task bytes : ℕ) → Type 0
+Carries r j m t w k u n =
+    (s : State) (φ : request.Shift) (b : List ℕ) → length b ≡ n → j ≡ judgedFor φ k → requestHolds m s t (request.access w k u φ) b ≡ true
+    → Begins r (verdictOn m s t (request.access w k u φ) b) (startOf t k)
 
 -- the way takes bytes from memory
 abbrev pub Loads : request.Way → Type 0

@@ -6,6 +6,9 @@ use checks::reach::near;
 use checks::reach::reach;
 use checks::refusal::Refusal;
 use checks::settings::settings;
+use checks::shift::shift_fits;
+use leases::lease::Window;
+use leases::lease::judge_leases;
 use rulings::reply::Outcome;
 use rulings::reply::plain;
 use rulings::reply::refused;
@@ -22,6 +25,9 @@ ghost use Rattle.tokens.specs.Permissions.{has};
 ghost use Rattle.tokens.specs.Token as tokens;
 ghost use Rattle.checks.specs.Holds.{settingsHold};
 ghost use Rattle.checks.specs.Reached.{Near};
+ghost use Rattle.checks.specs.Shifts.{closedVerdict, shiftAs};
+ghost use Rattle.leases.specs.declared.lease.Window.the-variants.{Open};
+ghost use Rattle.checks.specs.Refusals.{stopAs};
 ghost use Rattle.machine.specs.Operations.{numberOf, transfer};
 ghost use Rattle.machine.specs.Parts.{State};
 ghost use Rattle.machine.specs.Requests as request;
@@ -86,7 +92,7 @@ fn check_transfer(table: &[u8], way: Way, token: u64, named: Named, bytes: u64) 
     }
 }
 
-// All places but 1, for so many bytes.
+// All places but 1 and 16 where the token is open, for so many bytes.
 fn check_far(
     table: &[u8],
     memory: u64,
@@ -97,7 +103,7 @@ fn check_far(
     bytes: u64,
 ) -> Transfer
     requires { ⌜ named ≡ tokens.named token ⌝ }
-    ensures { λ r. ⌜ Carries r memory (now (table .entry)) (wayAs way) token task bytes ⌝ }
+    ensures { λ r. ⌜ Carries r Open memory (now (table .entry)) (wayAs way) token task bytes ⌝ }
 {
     let r = reach(table, memory, token, named, task);
     match r {
@@ -118,13 +124,66 @@ fn check_near(
 ) -> Transfer
     requires { ⌜ named ≡ tokens.named token ⌝ }
     requires { ⌜ Near memory (now table) named ⌝ }
-    ensures { λ r. ⌜ Carries r memory (now (table .entry)) (wayAs way) token task bytes ⌝ }
+    ensures { λ r. ⌜ Carries r Open memory (now (table .entry)) (wayAs way) token task bytes ⌝ }
 {
     let e = entry_at(table, named.number as usize);
     if e.locked & (e.holder != task) {
         Transfer::Stop(Refusal::Lock)
     } else {
         check_transfer(table, way, token, named, bytes)
+    }
+}
+
+// The same, whatever the token names.
+fn check_open(
+    table: &[u8],
+    memory: u64,
+    way: Way,
+    token: u64,
+    named: Named,
+    task: u64,
+    bytes: u64,
+) -> Transfer
+    requires { ⌜ named ≡ tokens.named token ⌝ }
+    ensures { λ r. ⌜ Carries r Open memory (now (table .entry)) (wayAs way) token task bytes ⌝ }
+{
+    if near(table, memory, named) {
+        check_near(table, memory, way, token, named, task, bytes)
+    } else {
+        check_far(table, memory, way, token, named, task, bytes)
+    }
+}
+
+// Places 2 to 5 and 15 where the token is closed.
+pub fn check_closed(table: &[u8], memory: u64, token: u64, named: Named, task: u64) -> Refusal
+    requires { ⌜ named ≡ tokens.named token ⌝ }
+    ensures { λ r. ⌜ stopAs r ≡ closedVerdict memory (now (table .entry)) token task ⌝ }
+{
+    let r = reach(table, memory, token, named, task);
+    match r {
+        Reached::Stop(why) => why,
+        Reached::Owner(_) => Refusal::Window,
+    }
+}
+
+// All places but 1, for a token that the leases leave unsound, closed or open.
+fn check_token(
+    window: Window,
+    table: &[u8],
+    memory: u64,
+    way: Way,
+    token: u64,
+    named: Named,
+    task: u64,
+    bytes: u64,
+) -> Transfer
+    requires { ⌜ named ≡ tokens.named token ⌝ }
+    ensures { λ r. ⌜ Carries r window memory (now (table .entry)) (wayAs way) token task bytes ⌝ }
+{
+    match window {
+        Window::Unsound => Transfer::Stop(Refusal::Lease),
+        Window::Closed => Transfer::Stop(check_closed(table, memory, token, named, task)),
+        Window::Open => check_open(table, memory, way, token, named, task, bytes),
     }
 }
 
@@ -136,18 +195,17 @@ fn check_access(
     way: Way,
     token: u64,
     task: u64,
+    leases: &[u8],
+    minute: u64,
     buffer: &[u8],
 ) -> Transfer
-    ensures { λ r. ⌜ ((s : State) → set ≡ settingsHold memory s (now (table .entry)) → Begins r (verdictOn memory s (now (table .entry)) (request.access (wayAs way) token task) (now (buffer .entry))) (startOf (now (table .entry)) token)) ⌝ }
+    ensures { λ r. ⌜ ((s : State) → set ≡ settingsHold memory s (now (table .entry)) → Begins r (verdictOn memory s (now (table .entry)) (request.access (wayAs way) token task (shiftAs minute (now (leases .entry)))) (now (buffer .entry))) (startOf (now (table .entry)) token)) ⌝ }
 {
     let bytes = buffer.len();
-    if set & (task < 1 << 55) & (1 <= bytes) & (bytes <= 4096) {
+    if set & (task < 1 << 55) & (1 <= bytes) & (bytes <= 4096) & shift_fits(leases, minute) {
         let named = read(token);
-        if near(table, memory, named) {
-            check_near(table, memory, way, token, named, task, bytes as u64)
-        } else {
-            check_far(table, memory, way, token, named, task, bytes as u64)
-        }
+        let window = judge_leases(leases, named.number, named.tag, minute);
+        check_token(window, table, memory, way, token, named, task, bytes as u64)
     } else {
         Transfer::Stop(Refusal::Request)
     }
@@ -178,15 +236,27 @@ pub fn fill(
     table: &[u8],
     memory: &[u8],
     buffer: &mut [u8],
+    leases: &[u8],
     token: u64,
     task: u64,
+    minute: u64,
 ) -> Outcome
-    ensures { λ r. ⌜ handed r (now (table .entry)) ≡ rulingOn (length (now (memory .entry))) (stateAs s) (now (table .entry)) (request.access (loadAs by) token task) (now (buffer .entry)) ⌝ }
-    ensures { λ _. ⌜ now (buffer .exit) ≡ bufferAfter (effectOn (length (now (memory .entry))) (stateAs s) (now (table .entry)) (request.access (loadAs by) token task) (now (buffer .entry))) (now (memory .entry)) (now (buffer .entry)) ⌝ }
+    ensures { λ r. ⌜ handed r (now (table .entry)) ≡ rulingOn (length (now (memory .entry))) (stateAs s) (now (table .entry)) (request.access (loadAs by) token task (shiftAs minute (now (leases .entry)))) (now (buffer .entry)) ⌝ }
+    ensures { λ _. ⌜ now (buffer .exit) ≡ bufferAfter (effectOn (length (now (memory .entry))) (stateAs s) (now (table .entry)) (request.access (loadAs by) token task (shiftAs minute (now (leases .entry)))) (now (buffer .entry))) (now (memory .entry)) (now (buffer .entry)) ⌝ }
 {
     let bytes = memory.len() as u64;
     let set = settings(bytes, s, table);
-    let r = check_access(set, table, bytes, way_of(by), token, task, buffer);
+    let r = check_access(
+        set,
+        table,
+        bytes,
+        way_of(by),
+        token,
+        task,
+        leases,
+        minute,
+        buffer,
+    );
     match r {
         Transfer::Stop(why) => refused(s, why),
         Transfer::From(start) => {
@@ -202,15 +272,27 @@ pub fn write(
     table: &[u8],
     memory: &mut [u8],
     buffer: &[u8],
+    leases: &[u8],
     token: u64,
     task: u64,
+    minute: u64,
 ) -> Outcome
-    ensures { λ r. ⌜ handed r (now (table .entry)) ≡ rulingOn (length (now (memory .entry))) (stateAs s) (now (table .entry)) (request.access request.writing token task) (now (buffer .entry)) ⌝ }
-    ensures { λ _. ⌜ now (memory .exit) ≡ memoryAfter (effectOn (length (now (memory .entry))) (stateAs s) (now (table .entry)) (request.access request.writing token task) (now (buffer .entry))) (now (memory .entry)) ⌝ }
+    ensures { λ r. ⌜ handed r (now (table .entry)) ≡ rulingOn (length (now (memory .entry))) (stateAs s) (now (table .entry)) (request.access request.writing token task (shiftAs minute (now (leases .entry)))) (now (buffer .entry)) ⌝ }
+    ensures { λ _. ⌜ now (memory .exit) ≡ memoryAfter (effectOn (length (now (memory .entry))) (stateAs s) (now (table .entry)) (request.access request.writing token task (shiftAs minute (now (leases .entry)))) (now (buffer .entry))) (now (memory .entry)) ⌝ }
 {
     let bytes = memory.len() as u64;
     let set = settings(bytes, s, table);
-    let r = check_access(set, table, bytes, Way::Write, token, task, buffer);
+    let r = check_access(
+        set,
+        table,
+        bytes,
+        Way::Write,
+        token,
+        task,
+        leases,
+        minute,
+        buffer,
+    );
     match r {
         Transfer::Stop(why) => refused(s, why),
         Transfer::From(start) => {
@@ -241,16 +323,18 @@ pub fn access(
     table: &[u8],
     memory: &mut [u8],
     buffer: &mut [u8],
+    leases: &[u8],
     token: u64,
     task: u64,
+    minute: u64,
 ) -> Outcome
-    ensures { λ r. ⌜ handed r (now (table .entry)) ≡ rulingOn (length (now (memory .entry))) (stateAs s) (now (table .entry)) (request.access (wayAs way) token task) (now (buffer .entry)) ⌝ }
-    ensures { λ _. ⌜ now (memory .exit) ≡ memoryAfter (effectOn (length (now (memory .entry))) (stateAs s) (now (table .entry)) (request.access (wayAs way) token task) (now (buffer .entry))) (now (memory .entry)) ⌝ }
-    ensures { λ _. ⌜ now (buffer .exit) ≡ bufferAfter (effectOn (length (now (memory .entry))) (stateAs s) (now (table .entry)) (request.access (wayAs way) token task) (now (buffer .entry))) (now (memory .entry)) (now (buffer .entry)) ⌝ }
+    ensures { λ r. ⌜ handed r (now (table .entry)) ≡ rulingOn (length (now (memory .entry))) (stateAs s) (now (table .entry)) (request.access (wayAs way) token task (shiftAs minute (now (leases .entry)))) (now (buffer .entry)) ⌝ }
+    ensures { λ _. ⌜ now (memory .exit) ≡ memoryAfter (effectOn (length (now (memory .entry))) (stateAs s) (now (table .entry)) (request.access (wayAs way) token task (shiftAs minute (now (leases .entry)))) (now (buffer .entry))) (now (memory .entry)) ⌝ }
+    ensures { λ _. ⌜ now (buffer .exit) ≡ bufferAfter (effectOn (length (now (memory .entry))) (stateAs s) (now (table .entry)) (request.access (wayAs way) token task (shiftAs minute (now (leases .entry)))) (now (buffer .entry))) (now (memory .entry)) (now (buffer .entry)) ⌝ }
 {
     let bytes = memory.len() as u64;
     let set = settings(bytes, s, table);
-    let r = check_access(set, table, bytes, way, token, task, buffer);
+    let r = check_access(set, table, bytes, way, token, task, leases, minute, buffer);
     match r {
         Transfer::Stop(why) => refused(s, why),
         Transfer::From(start) => {

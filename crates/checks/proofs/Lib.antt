@@ -1,3 +1,4 @@
 pub mod ReachLaws
 pub mod SettingLaws
+pub mod ShiftLaws
 pub mod VerdictLaws

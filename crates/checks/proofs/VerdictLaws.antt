@@ -7,21 +7,8 @@ use Prim.Native.Nat.{ℕ}
 use native.Mathlib.Omega.{arith}
 use Rattle.machine.specs.Steps.{pass, stop, Verdict, verdict}
 use Rattle.machine.specs.Stops.{Check, needAll, Refusal}
-use Rattle.machine.proofs.Decided.{AllTrue, needed, passed}
+use Rattle.machine.proofs.Decided.{AllTrue, andThen, needed, passed, verdict-append}
 use Rattle.checks.specs.Holds.{allHold, andHold}
-
--- one list after another
-abbrev pub andThen : Verdict → Verdict → Verdict
-andThen pass v = v
-andThen (stop r) v = stop r
-
-pub verdict-append : (cs ds : List Check) → verdict (cs ++ ds) ≡ andThen (verdict cs) (verdict ds)
-verdict-append [] ds = refl
-verdict-append (c ∷ cs) ds = go (c .holds) (verdict-append cs ds)
-  where
-    go : (b : Bool) → verdict (cs ++ ds) ≡ andThen (verdict cs) (verdict ds) → cond b (verdict (cs ++ ds)) (stop (c .refusal)) ≡ andThen (cond b (verdict cs) (stop (c .refusal))) (verdict ds)
-    go true h = h
-    go false h = refl
 
 -- the first list decides, or lets the second decide
 pub first-stops : (cs ds : List Check) {r : Refusal} → verdict cs ≡ stop r → verdict (cs ++ ds) ≡ stop r

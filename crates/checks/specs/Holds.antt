@@ -6,8 +6,8 @@ use mathlib.Core.List.{List, [], _∷_, _++_}
 use Prim.Native.Nat.{ℕ}
 use Rattle.tokens.specs.Token.{named}
 use Rattle.machine.specs.Parts.{State}
-use Rattle.machine.specs.Requests.{Request}
-use Rattle.machine.specs.Stops.{isNamed, places, settings, sizes}
+use Rattle.machine.specs.Requests.{Request, Shift}
+use Rattle.machine.specs.Stops.{isNamed, places, settings, shiftFits, sizes}
 
 -- a and all the facts hold
 abbrev pub andHold : Bool → List Bool → Bool
@@ -27,6 +27,10 @@ settingsHold m s t = allHold (sizes m t ++ settings s t)
 -- place 1 of a request holds
 unfoldable pub requestHolds : ℕ → State → List ℕ → Request → List ℕ → Bool
 requestHolds m s t q b = allHold (sizes m t ++ places m s t q b .request)
+
+-- and of what an access brings beside its bytes
+unfoldable pub shiftHolds : Shift → Bool
+shiftHolds φ = allHold (shiftFits φ)
 
 -- place 2 holds of a token
 unfoldable pub namedHolds : List ℕ → ℕ → Bool

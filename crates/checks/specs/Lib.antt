@@ -1,3 +1,4 @@
 pub mod Holds
 pub mod Reached
 pub mod Refusals
+pub mod Shifts

@@ -7,7 +7,7 @@ use Rattle.machine.specs.Stops as stops
 use Rattle.checks.specs.declared.refusal.Bad.{Bad}
 use Rattle.checks.specs.declared.refusal.Bad.the-variants.{Ancestor, Named}
 use Rattle.checks.specs.declared.refusal.Refusal.{Refusal}
-use Rattle.checks.specs.declared.refusal.Refusal.the-variants.{Bounds, Checksum, Dead, Entry, IllFormed, Kind, Lock, Nonces, Numbers, Record, Request, Right, Room, Standing}
+use Rattle.checks.specs.declared.refusal.Refusal.the-variants.{Bounds, Checksum, Dead, Entry, IllFormed, Kind, Lease, Lock, Nonces, Numbers, Record, Request, Right, Room, Standing, Window}
 
 abbrev pub badAs : Bad → line.Bad
 badAs Named = line.itself
@@ -28,6 +28,8 @@ refusalAs Nonces = stops.atNonces
 refusalAs Record = stops.atRecord
 refusalAs Checksum = stops.atChecksum
 refusalAs Room = stops.atRoom
+refusalAs Window = stops.atWindow
+refusalAs Lease = stops.atLease
 
 -- the verdict of a refusal
 abbrev pub stopAs : Refusal → Verdict

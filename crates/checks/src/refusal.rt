@@ -39,6 +39,10 @@ pub enum Refusal {
     Checksum,
     // 14: the output buffer is too small, or the written text too long.
     Room,
+    // 15: the token is closed at this minute.
+    Window,
+    // 16: a lease's minutes are equal, or one lies beyond the week.
+    Lease,
 }
 
 // 01's number of a refusal, and which entry was bad: 0 if it tells of none.
@@ -87,5 +91,7 @@ pub fn told(why: Refusal) -> RefusalWords
         Refusal::Record => plain(12),
         Refusal::Checksum => plain(13),
         Refusal::Room => plain(14),
+        Refusal::Window => plain(15),
+        Refusal::Lease => plain(16),
     }
 }

@@ -22,7 +22,7 @@ unfolding told
 safe-as κ h q (known r) e =
     let σ : Machine = machine κ in
     let c : Call = callOf r q in
-    let sizes = known-sizes (q .request) (κ .state) (q .answer) r (sym e) in
+    let sizes = known-sizes (q .request) (κ .state) (q .answer) (q .lent) r (sym e) in
     record {
       same = λ no. let kept = refused-keeps σ c no in rw (kept .machine, state-kept (κ .state) h (sizes .0));
       buffer = λ no. refused-keeps σ c no .buffer;

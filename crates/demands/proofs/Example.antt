@@ -13,19 +13,22 @@ use Rattle.bits.specs.SipHash.{absorb, add64, compress, finish, padded, rotl, s
 use Rattle.layout.specs.Entry.{directNumber, directOf, entryNumber, entryOf, indirectNumber, indirectOf}
 use Rattle.layout.specs.Form.{illFormed}
 use Rattle.layout.specs.Tag.{tagOf}
+use Rattle.leases.specs.Lease.{allSound, covers, firstLeases, isOpen, leaseAt, leasesOf}
 use Rattle.tokens.specs.Permissions.{within}
 use Rattle.machine.specs.Demand3 as claim
 use Rattle.machine.specs.Demand3.{above, IsReset, itself}
 use Rattle.machine.specs.Issuing.{passOver, seek}
 use Rattle.machine.specs.Line.{walk}
 use Rattle.machine.specs.Parts.{at, cleared, put, size}
-use Rattle.machine.specs.Requests.{derive, lock, Request, reset, revoke}
+use Rattle.machine.specs.Requests.{access, derive, lock, reading, Request, reset, revoke}
+use Rattle.machine.specs.ShiftWindows.{accesses, Leaseless}
 use Rattle.machine.specs.Steps.{answer, decide, step}
 use Rattle.machine.specs.Writes.{Name}
 use Rattle.bits.proofs.ByteLists.{bytes-zeros}
 use Rattle.demands.specs.Demands.{after, asks, Brought, Copies, Demand3, Grants, next, Shut, Standing}
-use Rattle.demands.specs.Example.{before, broken, child, derives, First, first, listOf, locks7, Premises, reads8, resets1, revokes}
-use Rattle.interface.specs.Exported.{Asked, asked, exported, known, picked, told, unknown, wordBytes}
+use Rattle.demands.specs.Example.{before, broken, ByEither, child, derives, First, first, lastMinute, Lending, listOf, locks7, Premises, reads8, resets1, revokes}
+use Rattle.interface.proofs.PlainLaws.{plain}
+use Rattle.interface.specs.Exported.{Asked, asked, exported, known, picked, Plain, told, unknown, wordBytes}
 use Rattle.demands.proofs.Secrecy.{secrecy}
 
 -- ---- what is needed to see it
@@ -64,7 +67,7 @@ each P k h r e = subst (Each P) e h
 
 -- with a broken call in the first list, and a read by 8 before the revoke, which is refused; the revoke gives the root alone
 pub premises : Premises before first (reads8 ∷ []) revokes (resets1 ∷ []) derives (broken ∷ locks7 ∷ reads8 ∷ []) child
-unfolding before bytes number lowBytes lowNumber directNumber directOf entryNumber entryOf indirectNumber indirectOf illFormed within absorb add64 compress finish padded rotl siphash sipRound word tagOf passOver seek walk at cleared put size decide step answer asked exported picked told wordBytes allBytes
+unfolding before bytes number lowBytes lowNumber directNumber directOf entryNumber entryOf indirectNumber indirectOf illFormed allSound covers firstLeases isOpen leaseAt leasesOf within absorb add64 compress finish padded rotl siphash sipRound word tagOf passOver seek walk at cleared put size decide step answer asked exported picked told wordBytes allBytes
 premises = record {
   bytes = bytes-zeros 40;
   granted = record { request = reset 0 0 1; asked = refl; such = claim.resets; granted = refl };
@@ -103,3 +106,17 @@ shut-by κ f qs r a q b k p =
 
 pub child-shut : Shut (after before (resets1 ∷ derives ∷ broken ∷ locks7 ∷ reads8 ∷ revokes ∷ [])) child
 child-shut = shut-by before first (reads8 ∷ []) revokes (resets1 ∷ []) derives (broken ∷ locks7 ∷ reads8 ∷ []) child premises
+
+-- calls with leases
+pub lends : Lending
+unfolding Lending before bytes number lowBytes lowNumber directNumber directOf entryNumber entryOf indirectNumber indirectOf illFormed allSound covers firstLeases isOpen leaseAt leasesOf within absorb add64 compress finish padded rotl siphash sipRound word tagOf passOver seek walk at cleared put size decide step answer asked exported picked told wordBytes allBytes
+lends = refl
+
+pub by-either : ByEither
+unfolding Plain word lowBytes lowNumber asked picked wordBytes before step decide exported bytes number
+by-either =
+    let κ : Standing = next before resets1 in
+    plain (lastMinute .request) (κ .state) (κ .table) (κ .memory) (lastMinute .buffer) (lastMinute .answer) (each Leaseless (asks κ lastMinute) in-week)
+  where
+    in-week : Leaseless (access reading 0 20 (record { minute = 10079; leases = [] }))
+    in-week r k φ accesses = (refl, omega arith)

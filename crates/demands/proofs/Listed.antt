@@ -15,7 +15,7 @@ use Rattle.bits.proofs.TestLaws.{both}
 use Rattle.machine.specs.Demand3.{IsReset, resets}
 use Rattle.bits.specs.Bytes.{AllBytes}
 use Rattle.machine.specs.Parts.{State}
-use Rattle.machine.specs.Requests.{Call, Request, reset}
+use Rattle.machine.specs.Requests.{Call, Request, reset, Shift}
 use Rattle.machine.specs.Rows.{row}
 use Rattle.machine.specs.Steps as steps
 use Rattle.machine.specs.Steps.{Machine, run, step}
@@ -62,7 +62,7 @@ whole-state s t m h =
 
 -- where the state has its size, this is the call's alone
 pub ask : Brought → Asked
-ask q = asked (q .request) (replicate stateSize 0) (q .answer)
+ask q = asked (q .request) (replicate stateSize 0) (q .answer) (q .lent)
 
 pub asks-alone : (κ : Standing) (q : Brought) → length (κ .state) ≡ stateSize → asks κ q ≡ ask q
 unfolding ask asked
@@ -89,13 +89,13 @@ none-reset [] h n = refl
 none-reset (k ∷ ks) h zero = not-true (isReset k) (both (not (isReset k)) (noReset ks) h .0)
 none-reset (k ∷ ks) h (suc n) = none-reset ks (both (not (isReset k)) (noReset ks) h .1) n
 
-kinds : (o k x u l m p c : ℕ) → Kind o k x (picked o k x u l m p c)
+kinds : (o k x u l m p c : ℕ) (φ : Shift) → Kind o k x (picked o k x u l m p c φ)
 unfolding picked isReset noReset
-kinds zero k x u l m p c = first u refl
-kinds (suc n) k x u l m p c = go (getD later n unknown) (none-reset later refl n)
+kinds zero k x u l m p c φ = first u refl
+kinds (suc n) k x u l m p c φ = go (getD later n unknown) (none-reset later refl n)
   where
     later : List Asked
-    later = drop 1 (requests k x u l m p c)
+    later = drop 1 (requests k x u l m p c φ)
 
     apart : (r : Request) → isReset (known r) ≡ false → IsReset r → ⊥
     apart _ h resets = false≢true (sym h)
@@ -105,13 +105,13 @@ kinds (suc n) k x u l m p c = go (getD later n unknown) (none-reset later refl n
     go unknown h = neither
 
 pub kind-of : (κ : Standing) (q : Brought) (r : Request) → asks κ q ≡ known r → Kind (word (q .request) 0) (word (q .request) 1) (word (q .request) 2) (known r)
-kind-of κ q r h = subst (Kind (word (q .request) 0) (word (q .request) 1) (word (q .request) 2)) (sym (request-sized (q .request) (κ .state) (q .answer) r h .1)) (kinds _ _ _ _ _ _ _ _)
+kind-of κ q r h = subst (Kind (word (q .request) 0) (word (q .request) 1) (word (q .request) 2)) (sym (request-sized (q .request) (κ .state) (q .answer) (q .lent) r h .1)) (kinds _ _ _ _ _ _ _ _ _)
 
 keys-fit : (κ : Standing) (q : Brought) (r : Request) → AllBytes (q .request) → asks κ q ≡ known r → KeysFit r
 keys-fit κ q r b h = go r (kind-of κ q r h)
   where
     lt : (i : ℕ) → i < 8 → word (q .request) i < 2 ^ 64
-    lt i l = let n = request-sized (q .request) (κ .state) (q .answer) r h .0 in word-lt (q .request) i (byte-at (q .request) b) (omega arith)
+    lt i l = let n = request-sized (q .request) (κ .state) (q .answer) (q .lent) r h .0 in word-lt (q .request) i (byte-at (q .request) b) (omega arith)
 
     go : (r : Request) → Kind (word (q .request) 0) (word (q .request) 1) (word (q .request) 2) (known r) → KeysFit r
     go _ (first u e) = keys _ _ u (lt 1 (omega arith)) (lt 2 (omega arith))

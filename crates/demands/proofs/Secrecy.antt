@@ -243,9 +243,9 @@ module _ (κ : Standing) (h : List Brought) (H : List Call) (s : ℕ) (e : Entry
       closed-calls m u again = go (asks (after κ a) q) refl
         where
           go : (x : Asked) → asks (after κ a) q ≡ x → Shut (after (next (after κ₁ qs) r) zs) k
-          go (known p) ha = λ q' w' token task hs hn ht ok.
-              closed-known p ha m u again w' token task (q' .buffer) hn ht
-              (subst (λ (σ : Machine). Accepted σ (callOf (access w' token task) q')) at-end (granted-as (after (next (after κ₁ qs) r) zs) q' (access w' token task) hs ok))
+          go (known p) ha = λ q' w' token task shift hs hn ht ok.
+              closed-known p ha m u again w' token task shift (q' .buffer) hn ht
+              (subst (λ (σ : Machine). Accepted σ (callOf (access w' token task shift) q')) at-end (granted-as (after (next (after κ₁ qs) r) zs) q' (access w' token task shift) hs ok))
           go unknown ha = absurd (List·Memᴰ·not-nil (subst (List·Memᴰ k) (issued-by (after κ a) q unknown ha) m))
 
   secret-calls : Secret κ h s e κ₁ κ₂ qs
@@ -270,7 +270,7 @@ secrecy κ hb f g rest b n s t = go (g .request) (g .such) (g .asked)
     go _ (resets {k0 = k0} {k1 = k1} {ν = ν}) ha locked κ₁ κ₂ c₁ c₂ qs bq wo =
         let e : Entry = at (after κ h .table) s in
         let c : Call = resetCall k0 k1 ν (f .buffer) in
-        let w : Whole κ = whole-bytes κ hb (known-sizes (f .request) (κ .state) (f .answer) (reset k0 k1 ν) (sym ha) .0) in
+        let w : Whole κ = whole-bytes κ hb (known-sizes (f .request) (κ .state) (f .answer) (f .lent) (reset k0 k1 ν) (sym ha) .0) in
         let m = steps-to κ f (reset k0 k1 ν) w (b .0) ha in
         let wh : Whole (after κ h) = tracks κ h w b .whole in
         let left : machine (after κ h) ≡ run (machine κ) (c ∷ requestsOf rest) = tracks (next κ f) rest (m .1) (b .1) .left ∙ ap (λ (σ : Machine). run σ (requestsOf rest)) (m .0) in

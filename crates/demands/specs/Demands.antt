@@ -1,6 +1,6 @@
--- The three demands (00) of the exported function: what any list of calls of `northbridge_serve` leaves and hands back, byte by byte. The caller keeps
--- state, table and memory, and hands each call what the last one left; a call brings request, buffer and answer, of any bytes and any lengths. A
--- call that is broken or names no operation is a refused request like others.
+-- The three demands (00) of the exported functions: what any list of calls of `northbridge_serve` and `northbridge_serve_leased` leaves and hands back, byte
+-- by byte. The caller keeps state, table and memory, and hands each call what the last one left; a call brings request, buffer, answer and, by the second
+-- function, leases, of any bytes and any lengths. A call that is broken or names no operation is a refused request like others.
 -- Assumes nothing.
 use mathlib.Core.Path.{_≡_}
 use mathlib.Core.Logic.{_≢_}
@@ -17,11 +17,11 @@ use Rattle.machine.specs.Given.{nameIn}
 use Rattle.bits.specs.Bytes.{AllBytes}
 use Rattle.machine.specs.Parts.{at}
 use Rattle.machine.specs.Refusals.{Told}
-use Rattle.machine.specs.Requests.{access, Call, Request, taskOf, Way}
+use Rattle.machine.specs.Requests.{access, Call, Request, Shift, taskOf, Way}
 use Rattle.machine.specs.Steps as steps
 use Rattle.machine.specs.Steps.{Machine, run, step}
 use Rattle.machine.specs.Writes.{Name}
-use Rattle.interface.specs.Exported.{answerSize, Asked, asked, Exported, exported, known, served, stateOf, stateSize, unknown, wordBytes}
+use Rattle.interface.specs.Exported.{answerSize, Asked, asked, Exported, exported, known, Lent, served, stateOf, stateSize, unknown, wordBytes}
 
 -- ---- calls
 
@@ -36,6 +36,7 @@ pub record Brought : Type 0 where
   pub request : List ℕ
   pub buffer : List ℕ
   pub answer : List ℕ
+  pub lent : Lent
 
 -- what it hands back beside what stands
 pub record Back : Type 0 where
@@ -44,7 +45,7 @@ pub record Back : Type 0 where
   pub answer : List ℕ
 
 abbrev pub call : Standing → Brought → Exported
-call κ q = exported (q .request) (κ .state) (κ .table) (κ .memory) (q .buffer) (q .answer)
+call κ q = exported (q .request) (κ .state) (κ .table) (κ .memory) (q .buffer) (q .answer) (q .lent)
 
 -- what a call left standing, and what it handed back
 abbrev pub leftBy : Exported → Standing
@@ -70,15 +71,15 @@ backs κ (q ∷ qs) = back κ q ∷ backs (next κ q) qs
 
 -- what a call asks
 abbrev pub asks : Standing → Brought → Asked
-asks κ q = asked (q .request) (κ .state) (q .answer)
+asks κ q = asked (q .request) (κ .state) (q .answer) (q .lent)
 
 -- a slice holds bytes; all that is asked of a list of calls is that their requests do
 abbrev pub Bytes : List Brought → Type 0
 Bytes [] = Unit {0}
 Bytes (q ∷ qs) = AllBytes (q .request) × Bytes qs
 
--- ---- demand 1: "A refused request returns one of the numbered refusals and changes no byte and no counter." The rest of it is the function itself: it asks
--- for nothing, and it returns.
+-- ---- demand 1: "A refused request returns one of the numbered refusals and changes no byte and no counter." The rest of it is the functions themselves: they
+-- ask for nothing, and they return.
 
 -- one of the numbers, and every byte of an answer that has its size: the number, which entry was bad, and zeros
 pub record Refusal (brought : List ℕ) (result : ℕ) (answer : List ℕ) : Type 0 where
@@ -177,10 +178,10 @@ pub record FirstRevoke (κ : Standing) (s : ℕ) (qs : List Brought) (r : Brough
   pub before : Never (λ p. Revokes p s) κ qs
   pub revoke : Grants (λ p. Revokes p s) (after κ qs) r
 
--- no call through the token k is a granted access, whatever it brings and to whatever task
+-- no call through the token k is a granted access, whatever it brings, leases and minute too, and to whatever task
 abbrev pub Shut : Standing → Name → Type 0
 Shut κ k =
-    (q : Brought) (w : Way) (token task : ℕ) → asks κ q ≡ known (access w token task) → named token .number ≡ k .number → named token .tag ≡ k .tag
+    (q : Brought) (w : Way) (token task : ℕ) (shift : Shift) → asks κ q ≡ known (access w token task shift) → named token .number ≡ k .number → named token .tag ≡ k .tag
     → call κ q .result ≡ 0 → ⊥
 
 -- What holds of two copies κ₁ and κ₂ of what the calls h left over κ, and of further calls qs. s is the locked entry and e what it then was. As qs is any

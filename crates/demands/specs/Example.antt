@@ -1,15 +1,15 @@
 -- A small list of calls that demand 3 is held against: 8 bytes of memory, a table of two entries, key 0.
 -- Assumes nothing.
 use mathlib.Core.Path.{_≡_}
-use mathlib.Core.List.{List, [], _∷_, _++_, List·Memᴰ}
+use mathlib.Core.List.{List, [], _∷_, _++_, List·Memᴰ, map}
 use Prim.Native.Nat.{ℕ}
 use lib.ListN.{replicate}
 use Rattle.machine.specs.Demand3.{IsReset, LockedFor, Under}
 use Rattle.bits.specs.Bytes.{AllBytes}
 use Rattle.machine.specs.Parts.{at}
 use Rattle.machine.specs.Writes.{Name}
-use Rattle.demands.specs.Demands.{after, Brought, Bytes, FirstRevoke, givenIn, gives, Grants, machine, Never, next, Standing, Without}
-use Rattle.interface.specs.Exported.{wordBytes}
+use Rattle.demands.specs.Demands.{after, Brought, Bytes, call, FirstRevoke, givenIn, gives, Grants, machine, Never, next, Standing, Without}
+use Rattle.interface.specs.Exported.{noLeases, withLeases, wordBytes}
 
 -- ---- the premises of demand 3, in one place
 
@@ -46,7 +46,7 @@ before = record { state = replicate 40 0; table = replicate 64 0; memory = repli
 
 -- the words of a request after its operation: token, second, task, length, user, permissions, encoding
 abbrev asking : (operation : ℕ) → List ℕ → (buffer : List ℕ) → Brought
-asking o ws b = record { request = wordBytes (o ∷ ws); buffer = b; answer = replicate 48 0 }
+asking o ws b = record { request = wordBytes (o ∷ ws); buffer = b; answer = replicate 48 0; lent = noLeases }
 
 -- reset with the first nonce 1; bytes 2 to 4 of the root derived for reading; the root locked for 7
 abbrev pub resets1 : Brought
@@ -60,14 +60,44 @@ locks7 = asking 10 (0 ∷ 0 ∷ 7 ∷ 0 ∷ 0 ∷ 0 ∷ 0 ∷ []) []
 
 -- a request of two bytes, and an answer that is too short
 abbrev pub broken : Brought
-broken = record { request = 1 ∷ 2 ∷ []; buffer = []; answer = 3 ∷ [] }
+broken = record { request = 1 ∷ 2 ∷ []; buffer = []; answer = 3 ∷ []; lent = noLeases }
 
--- a byte of the root read by 8; the root revoked
+-- a byte of the root read by 8 at minute 5, with a lease of the root for the minutes 1 to 8; the root revoked
 abbrev pub reads8 : Brought
-reads8 = asking 1 (0 ∷ 0 ∷ 8 ∷ 0 ∷ 0 ∷ 0 ∷ 0 ∷ []) (0 ∷ [])
+reads8 = record { request = wordBytes (1 ∷ 0 ∷ 5 ∷ 8 ∷ 0 ∷ 0 ∷ 0 ∷ 0 ∷ []); buffer = 0 ∷ []; answer = replicate 48 0; lent = withLeases (0 ∷ 0 ∷ 0 ∷ 0 ∷ 1 ∷ 0 ∷ 9 ∷ 0 ∷ []) }
 
 abbrev pub revokes : Brought
 revokes = asking 12 (0 ∷ 0 ∷ 0 ∷ 0 ∷ 0 ∷ 0 ∷ 0 ∷ []) []
+
+-- a call with leases, over what the reset left
+abbrev lending : (operation : ℕ) → List ℕ → (buffer table : List ℕ) → Brought
+lending o ws b ls = record { request = wordBytes (o ∷ ws); buffer = b; answer = replicate 48 0; lent = withLeases ls }
+
+-- Leases of a wrong size are 1 with any request; unsound ones stop no clone; a read by task 20 with a lease of the root for the minutes 1 to 8 is granted
+-- at minute 5, closed at 9, and at minute 10,080 it is 1; and `northbridge_serve` does not look at the minute.
+unfoldable pub Lending : Type 0
+Lending =
+    let lease : List ℕ = 0 ∷ 0 ∷ 0 ∷ 0 ∷ 1 ∷ 0 ∷ 9 ∷ 0 ∷ [] in
+    map (λ (q : Brought). call (next before resets1) q .result)
+    (lending 8 (replicate 7 0) [] (replicate 7 0)
+    ∷ lending 0 (replicate 7 1) [] (replicate 520 0)
+    ∷ lending 8 (replicate 7 0) [] (replicate 8 0)
+    ∷ lending 1 (0 ∷ 5 ∷ 20 ∷ 0 ∷ 0 ∷ 0 ∷ 0 ∷ []) (0 ∷ []) lease
+    ∷ lending 1 (0 ∷ 9 ∷ 20 ∷ 0 ∷ 0 ∷ 0 ∷ 0 ∷ []) (0 ∷ []) lease
+    ∷ lending 1 (0 ∷ 10080 ∷ 20 ∷ 0 ∷ 0 ∷ 0 ∷ 0 ∷ []) (0 ∷ []) []
+    ∷ asking 1 (0 ∷ 10080 ∷ 20 ∷ 0 ∷ 0 ∷ 0 ∷ 0 ∷ []) (0 ∷ [])
+    ∷ [])
+    ≡ 1 ∷ 1 ∷ 0 ∷ 0 ∷ 15 ∷ 1 ∷ 0 ∷ []
+
+-- without leases, at the week's last minute, it comes to the same by either function
+abbrev pub lastMinute : Brought
+lastMinute = lending 1 (0 ∷ 10079 ∷ 20 ∷ 0 ∷ 0 ∷ 0 ∷ 0 ∷ []) (0 ∷ []) []
+
+abbrev pub plainly : Brought → Brought
+plainly q = record { request = q .request; buffer = q .buffer; answer = q .answer; lent = noLeases }
+
+abbrev pub ByEither : Type 0
+ByEither = call (next before resets1) lastMinute ≡ call (next before resets1) (plainly lastMinute)
 
 -- what the derive gives
 abbrev pub child : Name

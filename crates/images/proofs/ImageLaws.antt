@@ -2,7 +2,7 @@
 -- Assumes nothing.
 use mathlib.Core.Path.{_≡_, refl, sym, ap, _∙_}
 use mathlib.Core.Bool.{Bool, true, false, true≢false, _&&_, cond}
-use mathlib.Core.List.{List, [], _∷_}
+use mathlib.Core.List.{List, [], _∷_, _++_}
 use Prim.Native.Nat.{ℕ, _+_, _-_, _^_, _≤_, _<_, max}
 use native.Mathlib.Nat.{add-sub-cancel-left}
 use native.Mathlib.Omega.{arith}
@@ -21,16 +21,17 @@ use Rattle.tokens.specs.Permissions.{R, W, within}
 use Rattle.tokens.specs.Token.{named}
 use Rattle.layout.specs.declared.entry.Entry.{Entry}
 use Rattle.tokens.specs.declared.token.Named.{Named}
-use Rattle.checks.specs.Holds.{requestHolds, settingsHold}
-use Rattle.checks.specs.Reached.{reachVerdict}
+use Rattle.checks.specs.Holds.{requestHolds, settingsHold, shiftHolds}
+use Rattle.checks.specs.Shifts.{shiftVerdict}
+use Rattle.checks.proofs.ShiftLaws.{hold-append, shift-read, shift-text}
 use Rattle.checks.proofs.ReachLaws.{reached-inside}
-use Rattle.checks.proofs.VerdictLaws.{first-passes, first-stops, together}
+use Rattle.checks.proofs.VerdictLaws.{together}
 use Rattle.machine.specs.Images.{piecesIn, piecesOf, spares, textFits}
 use Rattle.machine.specs.Operations.{Effect, effecting, grant, grantDump, grantLoad, namedEntry, numberOf, placed}
 use Rattle.machine.specs.Parts.{at, State}
-use Rattle.machine.specs.Requests.{dump, load, Request}
+use Rattle.machine.specs.Requests.{dump, load, Request, Shift}
 use Rattle.machine.specs.Steps.{bufferAfter, memoryAfter, pass, stop, stored, Verdict, verdict}
-use Rattle.machine.specs.Stops.{atBounds, atChecksum, atRecord, atRight, atRoom, checks, needAll, noOffset, places, reachable, Refusal, taskFits, textRead, textShort}
+use Rattle.machine.specs.Stops.{atBounds, atChecksum, atRecord, atRight, atRoom, checks, needAll, noOffset, places, Refusal, settings, shiftFits, sizes, taskFits, textRead, textShort}
 use Rattle.machine.proofs.Decided.{Passed}
 use Rattle.machine.proofs.PlaceLaws.{stored-part}
 use Rattle.table.specs.States.{stateAs}
@@ -128,48 +129,50 @@ fits-as a n b m h f = let long : length (take (a + n - a) (drop a m)) ≡ n = si
 
 -- ---- a load
 
-module _ (m : ℕ) (s : State) (t : List ℕ) (k u : ℕ) (b : List ℕ) where
+module _ (m : ℕ) (s : State) (t : List ℕ) (k u : ℕ) (φ : Shift) (b : List ℕ) where
   module _ (end : ℕ) (ends : farthest (piecesOf b) ≡ end) (n : Named) (e : Entry) (is : n ≡ named k) (there : e ≡ at t (n .number)) where
-    load-of : verdict (places m s t (load k u) b .rest) ≡ cond (within W (e .permissions)) (cond (leb end (e .length)) pass (stop atBounds)) (stop atRight)
+    load-of : verdict (places m s t (load k u φ) b .rest) ≡ cond (within W (e .permissions)) (cond (leb end (e .length)) pass (stop atBounds)) (stop atRight)
     load-of = rw (ends, there, is)
 
-    pub load-right : within W (e .permissions) ≡ false → verdict (places m s t (load k u) b .rest) ≡ stop atRight
+    pub load-right : within W (e .permissions) ≡ false → verdict (places m s t (load k u φ) b .rest) ≡ stop atRight
     load-right h = load-of ∙ rw h
 
     module _ (held : within W (e .permissions) ≡ true) where
-      pub load-out : leb end (e .length) ≡ false → verdict (places m s t (load k u) b .rest) ≡ stop atBounds
+      pub load-out : leb end (e .length) ≡ false → verdict (places m s t (load k u φ) b .rest) ≡ stop atBounds
       load-out h = load-of ∙ rw (held, h)
 
-      pub load-in : leb end (e .length) ≡ true → verdict (places m s t (load k u) b .rest) ≡ pass
+      pub load-in : leb end (e .length) ≡ true → verdict (places m s t (load k u φ) b .rest) ≡ pass
       load-in h = load-of ∙ rw (held, h)
 
-  pub load-request : (settingsHold m s t && ltb u (2 ^ 55) && eqb (named k .offset) 0 && leb (length b) 65536) ≡ requestHolds m s t (load k u) b
-  unfolding settingsHold requestHolds
-  load-request = refl
+  pub load-request : (settingsHold m s t && ltb u (2 ^ 55) && eqb (named k .offset) 0 && leb (length b) 65536 && shiftHolds φ) ≡ requestHolds m s t (load k u φ) b
+  unfolding settingsHold requestHolds shiftHolds
+  load-request = sym (hold-append (sizes m t ++ (settings s t ++ (taskFits u ∷ noOffset k ∷ textShort b ∷ []))) (shiftFits φ))
 
-  module _ (ok : requestHolds m s t (load k u) b ≡ true) where
+  load-tokens : {v : Verdict} → shiftVerdict (textRead b) m t k u φ ≡ v → tokensOn m s t (load k u φ) b ≡ v
+  unfolding shiftVerdict tokensOn
+  load-tokens h = h
+
+  module _ (ok : requestHolds m s t (load k u φ) b ≡ true) where
     -- the text stops it
-    pub load-text : {r : Refusal} → verdict (textRead b) ≡ stop r → verdictOn m s t (load k u) b ≡ stop r
-    unfolding tokensOn
-    load-text h = token-stops m s t (load k u) b ok (first-stops (textRead b) (reachable m t k u) h)
+    pub load-text : {r : Refusal} → verdict (textRead b) ≡ stop r → verdictOn m s t (load k u φ) b ≡ stop r
+    load-text h = token-stops m s t (load k u φ) b ok (load-tokens (shift-text (textRead b) m t k u φ h))
 
     module _ (read : verdict (textRead b) ≡ pass) where
-      load-reached : {v : Verdict} → reachVerdict m t k u ≡ v → tokensOn m s t (load k u) b ≡ v
-      unfolding reachVerdict tokensOn
-      load-reached h = first-passes (textRead b) (reachable m t k u) read ∙ h
+      load-reached : {v : Verdict} → shiftVerdict [] m t k u φ ≡ v → tokensOn m s t (load k u φ) b ≡ v
+      load-reached h = load-tokens (shift-read (textRead b) m t k u φ read ∙ h)
 
-      pub load-token : {r : Refusal} → reachVerdict m t k u ≡ stop r → verdictOn m s t (load k u) b ≡ stop r
-      load-token h = token-stops m s t (load k u) b ok (load-reached h)
+      pub load-token : {r : Refusal} → shiftVerdict [] m t k u φ ≡ stop r → verdictOn m s t (load k u φ) b ≡ stop r
+      load-token h = token-stops m s t (load k u φ) b ok (load-reached h)
 
-      pub load-rest : reachVerdict m t k u ≡ pass → verdictOn m s t (load k u) b ≡ verdict (places m s t (load k u) b .rest)
+      pub load-rest : shiftVerdict [] m t k u φ ≡ pass → verdictOn m s t (load k u φ) b ≡ verdict (places m s t (load k u φ) b .rest)
       load-rest h =
-          token-passes m s t (load k u) b ok (load-reached h)
-          ∙ rest-alone m s t (load k u) b refl (request-limits m s t (load k u) b (taskFits u ∷ noOffset k ∷ textShort b ∷ []) refl ok .left)
+          token-passes m s t (load k u φ) b ok (load-reached h)
+          ∙ rest-alone m s t (load k u φ) b refl (request-limits m s t (load k u φ) b (taskFits u ∷ noOffset k ∷ textShort b ∷ shiftFits φ) refl ok .left)
 
   -- what a pass says: the segment lies in memory, and the data in the segment
-  module _ (h : verdictOn m s t (load k u) b ≡ pass) where
-    all : Passed (checks m s t (load k u) b)
-    all = passed-on m s t (load k u) b h
+  module _ (h : verdictOn m s t (load k u φ) b ≡ pass) where
+    all : Passed (checks m s t (load k u φ) b)
+    all = passed-on m s t (load k u φ) b h
 
     pub load-room : namedEntry t k .base + namedEntry t k .length ≤ m
     load-room = reached-inside m t (numberOf k) (let p = all in search) (let p = all in search)
@@ -177,16 +180,16 @@ module _ (m : ℕ) (s : State) (t : List ℕ) (k u : ℕ) (b : List ℕ) where
     pub load-fits : Fits (said b) (namedEntry t k .length)
     load-fits = let p = all in text-fits b (namedEntry t k .length) (search) (search) (leb-true (farthest (piecesOf b)) (namedEntry t k .length) (search))
 
-    pub load-effect : effectOn m s t (load k u) b ≡ grantLoad (namedEntry t k) b .effect
+    pub load-effect : effectOn m s t (load k u φ) b ≡ grantLoad (namedEntry t k) b .effect
     unfolding grantedEffect
-    load-effect = effect-pass m s t (load k u) b h
+    load-effect = effect-pass m s t (load k u φ) b h
 
 -- it leaves the buffer, and a dump memory
-pub load-buffer : (m : ℕ) (s : State) (t : List ℕ) (k u : ℕ) (b memory : List ℕ) → b ≡ bufferAfter (effectOn m s t (load k u) b) memory b
-load-buffer m s t k u b memory = by-effect (λ (f : Effect). b ≡ bufferAfter f memory b) m s t (load k u) b refl refl
+pub load-buffer : (m : ℕ) (s : State) (t : List ℕ) (k u : ℕ) (φ : Shift) (b memory : List ℕ) → b ≡ bufferAfter (effectOn m s t (load k u φ) b) memory b
+load-buffer m s t k u φ b memory = by-effect (λ (f : Effect). b ≡ bufferAfter f memory b) m s t (load k u φ) b refl refl
 
-pub dump-memory : (m : ℕ) (s : State) (t : List ℕ) (k u : ℕ) (b memory : List ℕ) → memory ≡ memoryAfter (effectOn m s t (dump k u) b) memory
-dump-memory m s t k u b memory = by-effect (λ (f : Effect). memory ≡ memoryAfter f memory) m s t (dump k u) b refl refl
+pub dump-memory : (m : ℕ) (s : State) (t : List ℕ) (k u : ℕ) (φ : Shift) (b memory : List ℕ) → memory ≡ memoryAfter (effectOn m s t (dump k u φ) b) memory
+dump-memory m s t k u φ b memory = by-effect (λ (f : Effect). memory ≡ memoryAfter f memory) m s t (dump k u φ) b refl refl
 
 -- ---- a dump
 
@@ -196,38 +199,38 @@ room-some n room h e = rw (e, le-leb (writtenLength n) 65536 (omega arith))
 pub room-none : (n room : ℕ) → 23820 < n → false ≡ (leb (writtenLength n) 65536 && leb (writtenLength n) room)
 room-none n room h = rw (lt-leb (writtenLength n) 65536 (omega arith))
 
-module _ (m : ℕ) (s : State) (t : List ℕ) (k u : ℕ) (b : List ℕ) where
+module _ (m : ℕ) (s : State) (t : List ℕ) (k u : ℕ) (φ : Shift) (b : List ℕ) where
   module _ (room : ℕ) (long : length b ≡ room) (n : Named) (e : Entry) (is : n ≡ named k) (there : e ≡ at t (n .number)) where
-    dump-of : verdict (places m s t (dump k u) b .rest) ≡ cond (within R (e .permissions)) (cond (leb (writtenLength (e .length)) 65536 && leb (writtenLength (e .length)) room) pass (stop atRoom)) (stop atRight)
+    dump-of : verdict (places m s t (dump k u φ) b .rest) ≡ cond (within R (e .permissions)) (cond (leb (writtenLength (e .length)) 65536 && leb (writtenLength (e .length)) room) pass (stop atRoom)) (stop atRight)
     dump-of = ap (λ (v : Verdict). cond (within R (namedEntry t k .permissions)) v (stop atRight)) (together atRoom (textFits (namedEntry t k .length) b)) ∙ rw (← long, there, is)
 
-    pub dump-right : within R (e .permissions) ≡ false → verdict (places m s t (dump k u) b .rest) ≡ stop atRight
+    pub dump-right : within R (e .permissions) ≡ false → verdict (places m s t (dump k u φ) b .rest) ≡ stop atRight
     dump-right h = dump-of ∙ rw h
 
     module _ (held : within R (e .permissions) ≡ true) where
-      pub dump-out : (leb (writtenLength (e .length)) 65536 && leb (writtenLength (e .length)) room) ≡ false → verdict (places m s t (dump k u) b .rest) ≡ stop atRoom
+      pub dump-out : (leb (writtenLength (e .length)) 65536 && leb (writtenLength (e .length)) room) ≡ false → verdict (places m s t (dump k u φ) b .rest) ≡ stop atRoom
       dump-out h = dump-of ∙ rw (held, h)
 
-      pub dump-in : (leb (writtenLength (e .length)) 65536 && leb (writtenLength (e .length)) room) ≡ true → verdict (places m s t (dump k u) b .rest) ≡ pass
+      pub dump-in : (leb (writtenLength (e .length)) 65536 && leb (writtenLength (e .length)) room) ≡ true → verdict (places m s t (dump k u φ) b .rest) ≡ pass
       dump-in h = dump-of ∙ rw (held, h)
 
-  pub dump-request : (settingsHold m s t && ltb u (2 ^ 55) && eqb (named k .offset) 0) ≡ requestHolds m s t (dump k u) b
-  unfolding settingsHold requestHolds
-  dump-request = refl
+  pub dump-request : (settingsHold m s t && ltb u (2 ^ 55) && eqb (named k .offset) 0 && shiftHolds φ) ≡ requestHolds m s t (dump k u φ) b
+  unfolding settingsHold requestHolds shiftHolds
+  dump-request = sym (hold-append (sizes m t ++ (settings s t ++ (taskFits u ∷ noOffset k ∷ []))) (shiftFits φ))
 
-  pub dump-token : {v : Verdict} → reachVerdict m t k u ≡ v → tokensOn m s t (dump k u) b ≡ v
-  unfolding reachVerdict tokensOn
+  pub dump-token : {v : Verdict} → shiftVerdict [] m t k u φ ≡ v → tokensOn m s t (dump k u φ) b ≡ v
+  unfolding shiftVerdict tokensOn
   dump-token h = h
 
-  pub dump-rest : requestHolds m s t (dump k u) b ≡ true → reachVerdict m t k u ≡ pass → verdictOn m s t (dump k u) b ≡ verdict (places m s t (dump k u) b .rest)
+  pub dump-rest : requestHolds m s t (dump k u φ) b ≡ true → shiftVerdict [] m t k u φ ≡ pass → verdictOn m s t (dump k u φ) b ≡ verdict (places m s t (dump k u φ) b .rest)
   dump-rest ok h =
-      token-passes m s t (dump k u) b ok (dump-token h)
-      ∙ rest-alone m s t (dump k u) b refl (request-limits m s t (dump k u) b (taskFits u ∷ noOffset k ∷ []) refl ok .left)
+      token-passes m s t (dump k u φ) b ok (dump-token h)
+      ∙ rest-alone m s t (dump k u φ) b refl (request-limits m s t (dump k u φ) b (taskFits u ∷ noOffset k ∷ shiftFits φ) refl ok .left)
 
   -- what a pass says: the segment lies in memory, and its text in the buffer
-  module _ (h : verdictOn m s t (dump k u) b ≡ pass) where
-    all-dump : Passed (checks m s t (dump k u) b)
-    all-dump = passed-on m s t (dump k u) b h
+  module _ (h : verdictOn m s t (dump k u φ) b ≡ pass) where
+    all-dump : Passed (checks m s t (dump k u φ) b)
+    all-dump = passed-on m s t (dump k u φ) b h
 
     pub dump-inside : namedEntry t k .base + namedEntry t k .length ≤ m
     dump-inside = reached-inside m t (numberOf k) (let p = all-dump in search) (let p = all-dump in search)
@@ -238,9 +241,9 @@ module _ (m : ℕ) (s : State) (t : List ℕ) (k u : ℕ) (b : List ℕ) where
         let w : writtenLength (namedEntry t k .length) ≤ 65536 = leb-true (writtenLength (namedEntry t k .length)) 65536 (search) in
         (omega arith, leb-true (writtenLength (namedEntry t k .length)) (length b) (search))
 
-    pub dump-effect : effectOn m s t (dump k u) b ≡ grantDump (namedEntry t k) .effect
+    pub dump-effect : effectOn m s t (dump k u φ) b ≡ grantDump (namedEntry t k) .effect
     unfolding grantedEffect
-    dump-effect = effect-pass m s t (dump k u) b h
+    dump-effect = effect-pass m s t (dump k u φ) b h
 
 -- ---- what is handed back
 
@@ -250,10 +253,10 @@ unfolding granting
 handed-back m s t q b n f is (imaged.Stop why) h o e = decided-stop m s t q b why o e h
 handed-back m s t q b n f is (imaged.Done l) h o e = decided-pass m (stateAs s) t q b (handed o t) (rw (e, h .1, is)) (h .0)
 
-pub load-handed : (m : ℕ) (s : StateWords) (t : List ℕ) (k u : ℕ) (b : List ℕ) (r : Imaged) (o : Outcome) → Comes r m (stateAs s) t (load k u) b → o ≡ telling s r
-    → handed o t ≡ rulingOn m (stateAs s) t (load k u) b
-load-handed m s t k u b r o h e = handed-back m s t (load k u) b _ _ refl r h o e
+pub load-handed : (m : ℕ) (s : StateWords) (t : List ℕ) (k u : ℕ) (φ : Shift) (b : List ℕ) (r : Imaged) (o : Outcome) → Comes r m (stateAs s) t (load k u φ) b → o ≡ telling s r
+    → handed o t ≡ rulingOn m (stateAs s) t (load k u φ) b
+load-handed m s t k u φ b r o h e = handed-back m s t (load k u φ) b _ _ refl r h o e
 
-pub dump-handed : (m : ℕ) (s : StateWords) (t : List ℕ) (k u : ℕ) (b : List ℕ) (r : Imaged) (o : Outcome) → Comes r m (stateAs s) t (dump k u) b → o ≡ telling s r
-    → handed o t ≡ rulingOn m (stateAs s) t (dump k u) b
-dump-handed m s t k u b r o h e = handed-back m s t (dump k u) b _ _ refl r h o e
+pub dump-handed : (m : ℕ) (s : StateWords) (t : List ℕ) (k u : ℕ) (φ : Shift) (b : List ℕ) (r : Imaged) (o : Outcome) → Comes r m (stateAs s) t (dump k u φ) b → o ≡ telling s r
+    → handed o t ≡ rulingOn m (stateAs s) t (dump k u φ) b
+dump-handed m s t k u φ b r o h e = handed-back m s t (dump k u φ) b _ _ refl r h o e

@@ -5,6 +5,6 @@ use Rattle.machine.specs.Requests as request
 use Rattle.images.specs.declared.image.Kind.{Kind}
 use Rattle.images.specs.declared.image.Kind.the-variants.{Dump, Load}
 
-abbrev pub kindAs : Kind → (token task : ℕ) → request.Request
-kindAs Load k u = request.load k u
-kindAs Dump k u = request.dump k u
+abbrev pub kindAs : Kind → (token task : ℕ) → request.Shift → request.Request
+kindAs Load k u φ = request.load k u φ
+kindAs Dump k u φ = request.dump k u φ

@@ -3,16 +3,20 @@
 use mathlib.Core.Path.{_≡_}
 use mathlib.Core.Bool.{true}
 use mathlib.Core.List.{List}
-use Prim.Native.Nat.{ℕ}
+use Prim.Native.Nat.{ℕ, _+_, _*_, _≤_}
 use lib.ListN.{length}
 use Rattle.hex.specs.Text.{farthest}
 use Rattle.layout.specs.declared.entry.Entry.{Entry}
 use Rattle.checks.specs.Holds.{requestHolds}
 use Rattle.checks.specs.Refusals.{stopAs}
+use Rattle.checks.specs.declared.reach.Reached.{Reached}
+use Rattle.checks.specs.declared.reach.Reached.the-variants as reached
+use Rattle.checks.specs.Shifts.{judgedFor}
+use Rattle.leases.specs.declared.lease.Window.{Window}
 use Rattle.machine.specs.Images.{piecesOf}
-use Rattle.machine.specs.Operations.{grant, namedEntry}
+use Rattle.machine.specs.Operations.{grant, namedEntry, numberOf}
 use Rattle.machine.specs.Parts.{State}
-use Rattle.machine.specs.Requests.{dump, load, Request}
+use Rattle.machine.specs.Requests.{dump, load, Request, Shift}
 use Rattle.machine.specs.Steps.{pass, Verdict, verdict}
 use Rattle.machine.specs.Stops.{places, textRead}
 use Rattle.table.specs.declared.state.StateWords.{StateWords}
@@ -28,25 +32,31 @@ abbrev pub Lies : Segment → Verdict → Entry → Type 0
 Lies (Stop why) v e = v ≡ stopAs why
 Lies (At a n) v e = (v ≡ pass) × ((a ≡ e .base) × (n ≡ e .length))
 
+-- a token that reaches an owner names an entry of the table
+abbrev pub There : Reached → List ℕ → (token : ℕ) → Type 0
+There (reached.Stop why) t k = Unit
+There (reached.Owner o) t k = 32 * numberOf k + 32 ≤ length t
+
 -- places 7 and 8 of a load whose data end at so many bytes, whatever else it carries
 abbrev pub LoadRest : Segment → List ℕ → (token end : ℕ) → Type 0
 LoadRest r t k end =
-    (m u : ℕ) (s : State) (b : List ℕ) → farthest (piecesOf b) ≡ end → Lies r (verdict (places m s t (load k u) b .rest)) (namedEntry t k)
+    (m u : ℕ) (s : State) (φ : Shift) (b : List ℕ) → farthest (piecesOf b) ≡ end → Lies r (verdict (places m s t (load k u φ) b .rest)) (namedEntry t k)
 
--- all places but 1, 12 and 13, of one whose text reads well
-abbrev pub LoadToken : Segment → ℕ → List ℕ → (token task end : ℕ) → Type 0
-LoadToken r m t k u end =
-    (s : State) (b : List ℕ) → farthest (piecesOf b) ≡ end → verdict (textRead b) ≡ pass → requestHolds m s t (load k u) b ≡ true
-    → Lies r (verdictOn m s t (load k u) b) (namedEntry t k)
+-- all places but 1, 12 and 13, of one whose text reads well, where the leases come to w
+abbrev pub LoadToken : Segment → Window → ℕ → List ℕ → (token task end : ℕ) → Type 0
+LoadToken r w m t k u end =
+    (s : State) (φ : Shift) (b : List ℕ) → farthest (piecesOf b) ≡ end → verdict (textRead b) ≡ pass → w ≡ judgedFor φ k → requestHolds m s t (load k u φ) b ≡ true
+    → Lies r (verdictOn m s t (load k u φ) b) (namedEntry t k)
 
--- places 7 and 14 of a dump into a buffer of so many bytes, and all but 1
+-- places 7 and 14 of a dump into a buffer of so many bytes, and all but 1, where the leases come to w
 abbrev pub DumpRest : Segment → List ℕ → (token room : ℕ) → Type 0
 DumpRest r t k room =
-    (m u : ℕ) (s : State) (b : List ℕ) → length b ≡ room → Lies r (verdict (places m s t (dump k u) b .rest)) (namedEntry t k)
+    (m u : ℕ) (s : State) (φ : Shift) (b : List ℕ) → length b ≡ room → Lies r (verdict (places m s t (dump k u φ) b .rest)) (namedEntry t k)
 
-abbrev pub DumpToken : Segment → ℕ → List ℕ → (token task room : ℕ) → Type 0
-DumpToken r m t k u room =
-    (s : State) (b : List ℕ) → length b ≡ room → requestHolds m s t (dump k u) b ≡ true → Lies r (verdictOn m s t (dump k u) b) (namedEntry t k)
+abbrev pub DumpToken : Segment → Window → ℕ → List ℕ → (token task room : ℕ) → Type 0
+DumpToken r w m t k u room =
+    (s : State) (φ : Shift) (b : List ℕ) → length b ≡ room → w ≡ judgedFor φ k → requestHolds m s t (dump k u φ) b ≡ true
+    → Lies r (verdictOn m s t (dump k u φ) b) (namedEntry t k)
 
 -- the request q came to the verdict, and if it passes to the length that its grant tells
 abbrev pub Comes : Imaged → ℕ → State → List ℕ → Request → List ℕ → Type 0

@@ -8,7 +8,10 @@ use accesses::access::holds;
 use checks::reach::Reached;
 use checks::refusal::Refusal;
 use checks::settings::settings;
+use checks::shift::shift_fits;
 use hexwrite::write_text;
+use leases::lease::Window;
+use leases::lease::judge_leases;
 use rulings::reply::Outcome;
 use table::entries::entry_at;
 use table::state::StateWords;
@@ -23,6 +26,7 @@ ghost use lib.Seq.{sets};
 ghost use Rattle.hex.specs.Written.{written, writtenLength};
 ghost use Rattle.tokens.specs.Token as tokens;
 ghost use Rattle.checks.specs.Holds.{settingsHold};
+ghost use Rattle.checks.specs.Shifts.{shiftAs};
 ghost use Rattle.machine.specs.Operations.{namedEntry, numberOf};
 ghost use Rattle.machine.specs.Parts.{State};
 ghost use Rattle.machine.specs.Requests as request;
@@ -74,11 +78,19 @@ fn dump_rest(table: &[u8], token: u64, named: Named, room: u64) -> Segment
 }
 
 // All places but 1, for a buffer of so many bytes.
-fn dump_token(table: &[u8], memory: u64, token: u64, named: Named, task: u64, room: u64) -> Segment
+fn dump_token(
+    window: Window,
+    table: &[u8],
+    memory: u64,
+    token: u64,
+    named: Named,
+    task: u64,
+    room: u64,
+) -> Segment
     requires { ⌜ named ≡ tokens.named token ⌝ }
-    ensures { λ r. ⌜ DumpToken r memory (now (table .entry)) token task room ⌝ }
+    ensures { λ r. ⌜ DumpToken r window memory (now (table .entry)) token task room ⌝ }
 {
-    let r = reach_segment(table, memory, token, named, task);
+    let r = reach_segment(window, table, memory, token, named, task);
     match r {
         Reached::Stop(why) => Segment::Stop(why),
         Reached::Owner(_) => dump_rest(table, token, named, room),
@@ -86,12 +98,30 @@ fn dump_token(table: &[u8], memory: u64, token: u64, named: Named, task: u64, ro
 }
 
 // All places, for every state whose settings, with the sizes, are judged as told.
-fn check_dump(set: bool, table: &[u8], memory: u64, token: u64, task: u64, buffer: &[u8]) -> Segment
-    ensures { λ r. ⌜ ((s : State) → set ≡ settingsHold memory s (now (table .entry)) → Lies r (verdictOn memory s (now (table .entry)) (request.dump token task) (now (buffer .entry))) (namedEntry (now (table .entry)) token)) ⌝ }
+fn check_dump(
+    set: bool,
+    table: &[u8],
+    memory: u64,
+    token: u64,
+    task: u64,
+    leases: &[u8],
+    minute: u64,
+    buffer: &[u8],
+) -> Segment
+    ensures { λ r. ⌜ ((s : State) → set ≡ settingsHold memory s (now (table .entry)) → Lies r (verdictOn memory s (now (table .entry)) (request.dump token task (shiftAs minute (now (leases .entry)))) (now (buffer .entry))) (namedEntry (now (table .entry)) token)) ⌝ }
 {
     let named = read(token);
-    if set & (task < 1 << 55) & (named.offset == 0) {
-        dump_token(table, memory, token, named, task, buffer.len() as u64)
+    if set & (task < 1 << 55) & (named.offset == 0) & shift_fits(leases, minute) {
+        let window = judge_leases(leases, named.number, named.tag, minute);
+        dump_token(
+            window,
+            table,
+            memory,
+            token,
+            named,
+            task,
+            buffer.len() as u64,
+        )
     } else {
         Segment::Stop(Refusal::Request)
     }
@@ -112,15 +142,17 @@ pub(crate) fn dump_image(
     table: &[u8],
     memory: &[u8],
     buffer: &mut [u8],
+    leases: &[u8],
     token: u64,
     task: u64,
+    minute: u64,
 ) -> Imaged
-    ensures { λ r. ⌜ Comes r (length (now (memory .entry))) (stateAs s) (now (table .entry)) (request.dump token task) (now (buffer .entry)) ⌝ }
-    ensures { λ _. ⌜ now (buffer .exit) ≡ bufferAfter (effectOn (length (now (memory .entry))) (stateAs s) (now (table .entry)) (request.dump token task) (now (buffer .entry))) (now (memory .entry)) (now (buffer .entry)) ⌝ }
+    ensures { λ r. ⌜ Comes r (length (now (memory .entry))) (stateAs s) (now (table .entry)) (request.dump token task (shiftAs minute (now (leases .entry)))) (now (buffer .entry)) ⌝ }
+    ensures { λ _. ⌜ now (buffer .exit) ≡ bufferAfter (effectOn (length (now (memory .entry))) (stateAs s) (now (table .entry)) (request.dump token task (shiftAs minute (now (leases .entry)))) (now (buffer .entry))) (now (memory .entry)) (now (buffer .entry)) ⌝ }
 {
     let bytes = memory.len() as u64;
     let set = settings(bytes, s, table);
-    let r = check_dump(set, table, bytes, token, task, buffer);
+    let r = check_dump(set, table, bytes, token, task, leases, minute, buffer);
     match r {
         Segment::Stop(why) => Imaged::Stop(why),
         Segment::At { base, length } => {
@@ -136,11 +168,16 @@ pub fn dump(
     table: &[u8],
     memory: &[u8],
     buffer: &mut [u8],
+    leases: &[u8],
     token: u64,
     task: u64,
+    minute: u64,
 ) -> Outcome
-    ensures { λ r. ⌜ handed r (now (table .entry)) ≡ rulingOn (length (now (memory .entry))) (stateAs s) (now (table .entry)) (request.dump token task) (now (buffer .entry)) ⌝ }
-    ensures { λ _. ⌜ now (buffer .exit) ≡ bufferAfter (effectOn (length (now (memory .entry))) (stateAs s) (now (table .entry)) (request.dump token task) (now (buffer .entry))) (now (memory .entry)) (now (buffer .entry)) ⌝ }
+    ensures { λ r. ⌜ handed r (now (table .entry)) ≡ rulingOn (length (now (memory .entry))) (stateAs s) (now (table .entry)) (request.dump token task (shiftAs minute (now (leases .entry)))) (now (buffer .entry)) ⌝ }
+    ensures { λ _. ⌜ now (buffer .exit) ≡ bufferAfter (effectOn (length (now (memory .entry))) (stateAs s) (now (table .entry)) (request.dump token task (shiftAs minute (now (leases .entry)))) (now (buffer .entry))) (now (memory .entry)) (now (buffer .entry)) ⌝ }
 {
-    outcome(s, dump_image(s, table, memory, buffer, token, task))
+    outcome(
+        s,
+        dump_image(s, table, memory, buffer, leases, token, task, minute),
+    )
 }

@@ -8,6 +8,7 @@ use rulings::reply::Outcome;
 use table::state::StateWords;
 ghost use mathlib.Core.Path.{_≡_};
 ghost use lib.ListN.{length};
+ghost use Rattle.checks.specs.Shifts.{shiftAs};
 ghost use Rattle.machine.specs.Requests as request;
 ghost use Rattle.machine.specs.Steps.{bufferAfter, memoryAfter};
 ghost use Rattle.table.specs.States.{stateAs};
@@ -27,16 +28,18 @@ fn image(
     table: &[u8],
     memory: &mut [u8],
     buffer: &mut [u8],
+    leases: &[u8],
     token: u64,
     task: u64,
+    minute: u64,
 ) -> Imaged
-    ensures { λ r. ⌜ Comes r (length (now (memory .entry))) (stateAs s) (now (table .entry)) (kindAs kind token task) (now (buffer .entry)) ⌝ }
-    ensures { λ _. ⌜ now (memory .exit) ≡ memoryAfter (effectOn (length (now (memory .entry))) (stateAs s) (now (table .entry)) (kindAs kind token task) (now (buffer .entry))) (now (memory .entry)) ⌝ }
-    ensures { λ _. ⌜ now (buffer .exit) ≡ bufferAfter (effectOn (length (now (memory .entry))) (stateAs s) (now (table .entry)) (kindAs kind token task) (now (buffer .entry))) (now (memory .entry)) (now (buffer .entry)) ⌝ }
+    ensures { λ r. ⌜ Comes r (length (now (memory .entry))) (stateAs s) (now (table .entry)) (kindAs kind token task (shiftAs minute (now (leases .entry)))) (now (buffer .entry)) ⌝ }
+    ensures { λ _. ⌜ now (memory .exit) ≡ memoryAfter (effectOn (length (now (memory .entry))) (stateAs s) (now (table .entry)) (kindAs kind token task (shiftAs minute (now (leases .entry)))) (now (buffer .entry))) (now (memory .entry)) ⌝ }
+    ensures { λ _. ⌜ now (buffer .exit) ≡ bufferAfter (effectOn (length (now (memory .entry))) (stateAs s) (now (table .entry)) (kindAs kind token task (shiftAs minute (now (leases .entry)))) (now (buffer .entry))) (now (memory .entry)) (now (buffer .entry)) ⌝ }
 {
     match kind {
-        Kind::Load => load_image(s, table, memory, buffer, token, task),
-        Kind::Dump => dump_image(s, table, memory, buffer, token, task),
+        Kind::Load => load_image(s, table, memory, buffer, leases, token, task, minute),
+        Kind::Dump => dump_image(s, table, memory, buffer, leases, token, task, minute),
     }
 }
 
@@ -46,14 +49,29 @@ pub fn serve_load(
     table: &[u8],
     memory: &mut [u8],
     buffer: &mut [u8],
+    leases: &[u8],
     token: u64,
     task: u64,
+    minute: u64,
 ) -> Outcome
-    ensures { λ r. ⌜ handed r (now (table .entry)) ≡ rulingOn (length (now (memory .entry))) (stateAs s) (now (table .entry)) (request.load token task) (now (buffer .entry)) ⌝ }
-    ensures { λ _. ⌜ now (memory .exit) ≡ memoryAfter (effectOn (length (now (memory .entry))) (stateAs s) (now (table .entry)) (request.load token task) (now (buffer .entry))) (now (memory .entry)) ⌝ }
-    ensures { λ _. ⌜ now (buffer .exit) ≡ bufferAfter (effectOn (length (now (memory .entry))) (stateAs s) (now (table .entry)) (request.load token task) (now (buffer .entry))) (now (memory .entry)) (now (buffer .entry)) ⌝ }
+    ensures { λ r. ⌜ handed r (now (table .entry)) ≡ rulingOn (length (now (memory .entry))) (stateAs s) (now (table .entry)) (request.load token task (shiftAs minute (now (leases .entry)))) (now (buffer .entry)) ⌝ }
+    ensures { λ _. ⌜ now (memory .exit) ≡ memoryAfter (effectOn (length (now (memory .entry))) (stateAs s) (now (table .entry)) (request.load token task (shiftAs minute (now (leases .entry)))) (now (buffer .entry))) (now (memory .entry)) ⌝ }
+    ensures { λ _. ⌜ now (buffer .exit) ≡ bufferAfter (effectOn (length (now (memory .entry))) (stateAs s) (now (table .entry)) (request.load token task (shiftAs minute (now (leases .entry)))) (now (buffer .entry))) (now (memory .entry)) (now (buffer .entry)) ⌝ }
 {
-    outcome(s, image(s, Kind::Load, table, memory, buffer, token, task))
+    outcome(
+        s,
+        image(
+            s,
+            Kind::Load,
+            table,
+            memory,
+            buffer,
+            leases,
+            token,
+            task,
+            minute,
+        ),
+    )
 }
 
 // A dump to the buffer.
@@ -62,12 +80,27 @@ pub fn serve_dump(
     table: &[u8],
     memory: &mut [u8],
     buffer: &mut [u8],
+    leases: &[u8],
     token: u64,
     task: u64,
+    minute: u64,
 ) -> Outcome
-    ensures { λ r. ⌜ handed r (now (table .entry)) ≡ rulingOn (length (now (memory .entry))) (stateAs s) (now (table .entry)) (request.dump token task) (now (buffer .entry)) ⌝ }
-    ensures { λ _. ⌜ now (memory .exit) ≡ memoryAfter (effectOn (length (now (memory .entry))) (stateAs s) (now (table .entry)) (request.dump token task) (now (buffer .entry))) (now (memory .entry)) ⌝ }
-    ensures { λ _. ⌜ now (buffer .exit) ≡ bufferAfter (effectOn (length (now (memory .entry))) (stateAs s) (now (table .entry)) (request.dump token task) (now (buffer .entry))) (now (memory .entry)) (now (buffer .entry)) ⌝ }
+    ensures { λ r. ⌜ handed r (now (table .entry)) ≡ rulingOn (length (now (memory .entry))) (stateAs s) (now (table .entry)) (request.dump token task (shiftAs minute (now (leases .entry)))) (now (buffer .entry)) ⌝ }
+    ensures { λ _. ⌜ now (memory .exit) ≡ memoryAfter (effectOn (length (now (memory .entry))) (stateAs s) (now (table .entry)) (request.dump token task (shiftAs minute (now (leases .entry)))) (now (buffer .entry))) (now (memory .entry)) ⌝ }
+    ensures { λ _. ⌜ now (buffer .exit) ≡ bufferAfter (effectOn (length (now (memory .entry))) (stateAs s) (now (table .entry)) (request.dump token task (shiftAs minute (now (leases .entry)))) (now (buffer .entry))) (now (memory .entry)) (now (buffer .entry)) ⌝ }
 {
-    outcome(s, image(s, Kind::Dump, table, memory, buffer, token, task))
+    outcome(
+        s,
+        image(
+            s,
+            Kind::Dump,
+            table,
+            memory,
+            buffer,
+            leases,
+            token,
+            task,
+            minute,
+        ),
+    )
 }

@@ -8,9 +8,12 @@ use accesses::access::holds;
 use checks::reach::Reached;
 use checks::refusal::Refusal;
 use checks::settings::settings;
+use checks::shift::shift_fits;
 use hexread::store::store;
 use hexread::text::Judged;
 use hexread::text::judge;
+use leases::lease::Window;
+use leases::lease::judge_leases;
 use rulings::reply::Outcome;
 use table::entries::entry_at;
 use table::state::StateWords;
@@ -23,6 +26,7 @@ ghost use Rattle.hex.specs.Text.{said};
 ghost use Rattle.hexread.specs.Answers.{Fits};
 ghost use Rattle.tokens.specs.Token as tokens;
 ghost use Rattle.checks.specs.Holds.{settingsHold};
+ghost use Rattle.checks.specs.Shifts.{shiftAs};
 ghost use Rattle.machine.specs.Images.{piecesOf};
 ghost use Rattle.machine.specs.Operations.{namedEntry, numberOf, placed};
 ghost use Rattle.machine.specs.Parts.{State};
@@ -52,12 +56,20 @@ fn load_rest(table: &[u8], token: u64, named: Named, end: u64) -> Segment
     }
 }
 
-// Places 2 to 8, for such data.
-fn load_token(table: &[u8], memory: u64, token: u64, named: Named, task: u64, end: u64) -> Segment
+// All places but 1, 12 and 13, for such data.
+fn load_token(
+    window: Window,
+    table: &[u8],
+    memory: u64,
+    token: u64,
+    named: Named,
+    task: u64,
+    end: u64,
+) -> Segment
     requires { ⌜ named ≡ tokens.named token ⌝ }
-    ensures { λ r. ⌜ LoadToken r memory (now (table .entry)) token task end ⌝ }
+    ensures { λ r. ⌜ LoadToken r window memory (now (table .entry)) token task end ⌝ }
 {
-    let r = reach_segment(table, memory, token, named, task);
+    let r = reach_segment(window, table, memory, token, named, task);
     match r {
         Reached::Stop(why) => Segment::Stop(why),
         Reached::Owner(_) => load_rest(table, token, named, end),
@@ -65,16 +77,33 @@ fn load_token(table: &[u8], memory: u64, token: u64, named: Named, task: u64, en
 }
 
 // All places, for every state whose settings, with the sizes, are judged as told.
-fn check_load(set: bool, table: &[u8], memory: u64, token: u64, task: u64, text: &[u8]) -> Segment
-    ensures { λ r. ⌜ ((s : State) → set ≡ settingsHold memory s (now (table .entry)) → Lies r (verdictOn memory s (now (table .entry)) (request.load token task) (now (text .entry))) (namedEntry (now (table .entry)) token)) ⌝ }
+fn check_load(
+    set: bool,
+    table: &[u8],
+    memory: u64,
+    token: u64,
+    task: u64,
+    leases: &[u8],
+    minute: u64,
+    text: &[u8],
+) -> Segment
+    ensures { λ r. ⌜ ((s : State) → set ≡ settingsHold memory s (now (table .entry)) → Lies r (verdictOn memory s (now (table .entry)) (request.load token task (shiftAs minute (now (leases .entry)))) (now (text .entry))) (namedEntry (now (table .entry)) token)) ⌝ }
 {
     let named = read(token);
-    if set & (task < 1 << 55) & (named.offset == 0) & (text.len() <= 65536) {
+    if set
+        & (task < 1 << 55)
+        & (named.offset == 0)
+        & (text.len() <= 65536)
+        & shift_fits(leases, minute)
+    {
         let judged = judge(text);
         match judged {
             Judged::Malformed => Segment::Stop(Refusal::Record),
             Judged::WrongSum => Segment::Stop(Refusal::Checksum),
-            Judged::Loads(end) => load_token(table, memory, token, named, task, end as u64),
+            Judged::Loads(end) => {
+                let window = judge_leases(leases, named.number, named.tag, minute);
+                load_token(window, table, memory, token, named, task, end as u64)
+            }
         }
     } else {
         Segment::Stop(Refusal::Request)
@@ -97,15 +126,17 @@ pub(crate) fn load_image(
     table: &[u8],
     memory: &mut [u8],
     text: &[u8],
+    leases: &[u8],
     token: u64,
     task: u64,
+    minute: u64,
 ) -> Imaged
-    ensures { λ r. ⌜ Comes r (length (now (memory .entry))) (stateAs s) (now (table .entry)) (request.load token task) (now (text .entry)) ⌝ }
-    ensures { λ _. ⌜ now (memory .exit) ≡ memoryAfter (effectOn (length (now (memory .entry))) (stateAs s) (now (table .entry)) (request.load token task) (now (text .entry))) (now (memory .entry)) ⌝ }
+    ensures { λ r. ⌜ Comes r (length (now (memory .entry))) (stateAs s) (now (table .entry)) (request.load token task (shiftAs minute (now (leases .entry)))) (now (text .entry)) ⌝ }
+    ensures { λ _. ⌜ now (memory .exit) ≡ memoryAfter (effectOn (length (now (memory .entry))) (stateAs s) (now (table .entry)) (request.load token task (shiftAs minute (now (leases .entry)))) (now (text .entry))) (now (memory .entry)) ⌝ }
 {
     let bytes = memory.len() as u64;
     let set = settings(bytes, s, table);
-    let r = check_load(set, table, bytes, token, task, text);
+    let r = check_load(set, table, bytes, token, task, leases, minute, text);
     match r {
         Segment::Stop(why) => Imaged::Stop(why),
         Segment::At { base, length } => {
@@ -121,11 +152,16 @@ pub fn load(
     table: &[u8],
     memory: &mut [u8],
     text: &[u8],
+    leases: &[u8],
     token: u64,
     task: u64,
+    minute: u64,
 ) -> Outcome
-    ensures { λ r. ⌜ handed r (now (table .entry)) ≡ rulingOn (length (now (memory .entry))) (stateAs s) (now (table .entry)) (request.load token task) (now (text .entry)) ⌝ }
-    ensures { λ _. ⌜ now (memory .exit) ≡ memoryAfter (effectOn (length (now (memory .entry))) (stateAs s) (now (table .entry)) (request.load token task) (now (text .entry))) (now (memory .entry)) ⌝ }
+    ensures { λ r. ⌜ handed r (now (table .entry)) ≡ rulingOn (length (now (memory .entry))) (stateAs s) (now (table .entry)) (request.load token task (shiftAs minute (now (leases .entry)))) (now (text .entry)) ⌝ }
+    ensures { λ _. ⌜ now (memory .exit) ≡ memoryAfter (effectOn (length (now (memory .entry))) (stateAs s) (now (table .entry)) (request.load token task (shiftAs minute (now (leases .entry)))) (now (text .entry))) (now (memory .entry)) ⌝ }
 {
-    outcome(s, load_image(s, table, memory, text, token, task))
+    outcome(
+        s,
+        load_image(s, table, memory, text, leases, token, task, minute),
+    )
 }

@@ -1,8 +1,10 @@
 // The segment that a load or a dump is of.
+use accesses::access::check_closed;
 use checks::reach::Reached;
 use checks::reach::opens;
 use checks::reach::reach_near;
 use checks::refusal::Refusal;
+use leases::lease::Window;
 use rulings::reply::Outcome;
 use rulings::reply::filling;
 use rulings::reply::refused;
@@ -11,10 +13,13 @@ use tokens::token::Named;
 ghost use mathlib.Core.Path.{_≡_};
 ghost use lib.ListN.{length};
 ghost use Rattle.tokens.specs.Token as tokens;
-ghost use Rattle.checks.specs.Reached.{Reaches, reachVerdict};
+ghost use mathlib.Core.List.{[]};
+ghost use Rattle.checks.specs.Reached.{Reaches};
+ghost use Rattle.checks.specs.Shifts.{judgedFor, shiftVerdict};
 ghost use Rattle.machine.specs.Line.{lineOf};
 ghost use Rattle.machine.specs.Operations.{numberOf};
-ghost use Rattle.images.specs.Segments.{telling};
+ghost use Rattle.machine.specs.Requests.{Shift};
+ghost use Rattle.images.specs.Segments.{telling, There};
 
 // What the checks come to: where the request stops, or the segment's base and length.
 pub enum Segment {
@@ -39,8 +44,10 @@ pub(crate) fn outcome(s: StateWords, r: Imaged) -> Outcome
     }
 }
 
-// Places 2 to 5 of a token, quick where it names a direct entry.
+// 16, places 2 to 5 and 15 of a token for which the leases come to so much, quick where it names a
+// direct entry.
 pub(crate) fn reach_segment(
+    window: Window,
     table: &[u8],
     memory: u64,
     token: u64,
@@ -48,13 +55,18 @@ pub(crate) fn reach_segment(
     task: u64,
 ) -> Reached
     requires { ⌜ named ≡ tokens.named token ⌝ }
-    ensures { λ r. ⌜ Reaches (now (table .entry)) r (reachVerdict memory (now (table .entry)) token task) (lineOf memory (now (table .entry)) (numberOf token)) ⌝ }
+    ensures { λ r. ⌜ ((φ : Shift) → window ≡ judgedFor φ token → Reaches (now (table .entry)) r (shiftVerdict [] memory (now (table .entry)) token task φ) (lineOf memory (now (table .entry)) (numberOf token))) ⌝ }
+    ensures { λ r. ⌜ There r (now (table .entry)) token ⌝ }
 {
-    opens(
-        table,
-        memory,
-        token,
-        task,
-        reach_near(table, memory, token, named),
-    )
+    match window {
+        Window::Unsound => Reached::Stop(Refusal::Lease),
+        Window::Closed => Reached::Stop(check_closed(table, memory, token, named, task)),
+        Window::Open => opens(
+            table,
+            memory,
+            token,
+            task,
+            reach_near(table, memory, token, named),
+        ),
+    }
 }

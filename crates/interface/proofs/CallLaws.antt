@@ -16,7 +16,7 @@ use Rattle.rulings.specs.declared.reply.Outcome.{Outcome}
 use Rattle.operations.specs.Turns.{after, answered, before, callAs}
 use Rattle.table.specs.States.{stateAs}
 use Rattle.table.specs.declared.state.StateWords.{StateWords}
-use Rattle.interface.specs.Exported.{answerBytes, answerSize, Asked, asked, carried, exported, known, requestOf, requestSize, served, sized, stateBytes, stateOf, stateSize}
+use Rattle.interface.specs.Exported.{answerBytes, answerSize, Asked, asked, carried, exported, known, Lent, lentFits, requestOf, requestSize, served, shiftOf, sized, stateBytes, stateOf, stateSize}
 use Rattle.interface.specs.Meanings.{left}
 
 -- a step of the code's state, stored, is what a known request leaves
@@ -33,34 +33,35 @@ step-carried q s t m b a x r n s′ t′ m′ b′ a′ hx h hs ha =
 
 -- ---- sizes
 
-split : (x y z : Bool) → T (x && y && z) → T x × (T y × T z)
-split true true z t = (tt, (tt, t))
-split true false z t = absurd t
-split false y z t = absurd t
+split : (w x y z : Bool) → T (w && x && y && z) → T w × (T x × (T y × T z))
+split true true true z t = (tt, (tt, (tt, t)))
+split true true false z t = absurd t
+split true false y z t = absurd t
+split false x y z t = absurd t
 
-module _ (q s a : List ℕ) where
-  pub sizes : sized q s a ≡ true → (length q ≡ requestSize) × ((length s ≡ stateSize) × (length a ≡ answerSize))
+module _ (q s a : List ℕ) (l : Lent) where
+  pub sizes : sized q s a l ≡ true → (length q ≡ requestSize) × ((length s ≡ stateSize) × (length a ≡ answerSize))
   sizes h =
-      let t : T (sized q s a) = rw h tt in
-      let p = split (eqb (length q) requestSize) (eqb (length s) stateSize) (eqb (length a) answerSize) t in
-      (eqb→eq (length q) requestSize (p .0), (eqb→eq (length s) stateSize (p .1 .0), eqb→eq (length a) answerSize (p .1 .1)))
+      let t : T (sized q s a l) = rw h tt in
+      let p = split (eqb (length q) requestSize) (eqb (length s) stateSize) (eqb (length a) answerSize) (lentFits l) t in
+      (eqb→eq (length q) requestSize (p .0), (eqb→eq (length s) stateSize (p .1 .0), eqb→eq (length a) answerSize (p .1 .1 .0)))
 
   -- a request is known only where state and answer have theirs
-  pub known-sizes : (r : Request) → known r ≡ asked q s a → (length s ≡ stateSize) × (length a ≡ answerSize)
+  pub known-sizes : (r : Request) → known r ≡ asked q s a l → (length s ≡ stateSize) × (length a ≡ answerSize)
   unfolding asked
   known-sizes r =
-      by-cond (λ (k : Asked). known r ≡ k → (length s ≡ stateSize) × (length a ≡ answerSize)) (sized q s a) (λ e h. sizes e .1)
+      by-cond (λ (k : Asked). known r ≡ k → (length s ≡ stateSize) × (length a ≡ answerSize)) (sized q s a l) (λ e h. sizes e .1)
       (λ e h. absurd (let z : _≡_ {A = ℕ} 0 1 = cc in omega arith))
 
   -- and only where the request has its own; it is the one that its words pick
-  pub request-sized : (r : Request) → asked q s a ≡ known r → (length q ≡ requestSize) × (known r ≡ requestOf q)
+  pub request-sized : (r : Request) → asked q s a l ≡ known r → (length q ≡ requestSize) × (known r ≡ requestOf q (shiftOf q l))
   unfolding asked
   request-sized r =
-      by-cond (λ (k : Asked). k ≡ known r → (length q ≡ requestSize) × (known r ≡ requestOf q)) (sized q s a) (λ e h. (sizes e .0, sym h))
+      by-cond (λ (k : Asked). k ≡ known r → (length q ≡ requestSize) × (known r ≡ requestOf q (shiftOf q l))) (sized q s a l) (λ e h. (sizes e .0, sym h))
       (λ e h. absurd (let z : _≡_ {A = ℕ} 0 1 = cc in omega arith))
 
   -- ---- a call
 
-  pub exported-as : (t m b : List ℕ) (k : Asked) → k ≡ asked q s a → carried k s t m b a ≡ exported q s t m b a
+  pub exported-as : (t m b : List ℕ) (k : Asked) → k ≡ asked q s a l → carried k s t m b a ≡ exported q s t m b a l
   unfolding exported
   exported-as t m b k h = ap (λ (k : Asked). carried k s t m b a) h

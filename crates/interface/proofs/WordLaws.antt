@@ -14,6 +14,7 @@ use borrow.Rule.Slice.PartMut.{putMid}
 use Rattle.bits.specs.Bytes.{lowBytes, lowNumber, number}
 use Rattle.bits.specs.SipHash.{word}
 use Rattle.bits.proofs.ByteLaws.{length-low-bytes, low-back, low-mod, tabulate}
+use Rattle.machine.specs.Requests.{Shift}
 use Rattle.interface.specs.Exported.{picked, requests, unknown, wordBytes}
 
 word-bytes-append : (v w : List ℕ) → wordBytes (v ++ w) ≡ wordBytes v ++ wordBytes w
@@ -90,6 +91,6 @@ beyond (suc n) o h =
     omega arith
 
 -- no request has a number above 14
-pub picked-none : (o k x u l m p c : ℕ) → 15 ≤ o → unknown ≡ picked o k x u l m p c
+pub picked-none : (o k x u l m p c : ℕ) (φ : Shift) → 15 ≤ o → unknown ≡ picked o k x u l m p c φ
 unfolding picked
-picked-none o k x u l m p c h = sym (List·getD-eq-default (requests k x u l m p c) unknown h)
+picked-none o k x u l m p c φ h = sym (List·getD-eq-default (requests k x u l m p c φ) unknown h)

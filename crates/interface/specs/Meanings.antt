@@ -8,9 +8,10 @@ use Rattle.interface.specs.declared.answer.AnswerWords.{AnswerWords}
 use Rattle.interface.specs.declared.request.Asked as code
 use Rattle.interface.specs.declared.request.Asked.the-variants.{Known, Unknown}
 
-abbrev pub askedAs : code.Asked → Asked
-askedAs (Known q) = known (requestAs q)
-askedAs Unknown = unknown
+-- what is asked, with the leases that are lent with it
+abbrev pub askedAs : code.Asked → (leases : List ℕ) → Asked
+askedAs (Known q) ls = known (requestAs q ls)
+askedAs Unknown ls = unknown
 
 abbrev pub wordsAs : AnswerWords → List ℕ
 wordsAs r = r .refusal ∷ r .place ∷ r .first ∷ r .second ∷ r .dropped ∷ r .length ∷ []

@@ -2,8 +2,11 @@
 use crate::words::word_at;
 use operations::serve::Request;
 ghost use mathlib.Core.Path.{_≡_};
+ghost use mathlib.Core.List.{List, []};
+ghost use Prim.Native.Nat.{ℕ};
 ghost use lib.ListN.{length};
-ghost use Rattle.interface.specs.Exported.{picked, requestOf, requestSize};
+ghost use Rattle.checks.specs.Shifts.{shiftAs};
+ghost use Rattle.interface.specs.Exported.{noLeases, picked, requestOf, requestSize, shiftOf, withLeases};
 ghost use Rattle.interface.specs.Meanings.{askedAs};
 
 // In bytes.
@@ -15,7 +18,8 @@ pub enum Asked {
     Unknown,
 }
 
-// The operation's number picks the request. Words that it does not use are not looked at.
+// The operation's number picks the request. Words that it does not use are not looked at. The minute
+// is that of an access.
 fn pick(
     operation: u64,
     token: u64,
@@ -25,8 +29,9 @@ fn pick(
     user: u64,
     permissions: u64,
     encoding: u64,
+    minute: u64,
 ) -> Asked
-    ensures { λ r. ⌜ askedAs r ≡ picked operation token second task length user permissions encoding ⌝ }
+    ensures { λ r. ⌜ ((ls : List ℕ) → askedAs r ls ≡ picked operation token second task length user permissions encoding (shiftAs minute ls)) ⌝ }
 {
     match operation {
         0 => Asked::Known(Request::Reset {
@@ -34,9 +39,21 @@ fn pick(
             key1: second,
             first_nonce: task,
         }),
-        1 => Asked::Known(Request::Read { token, task }),
-        2 => Asked::Known(Request::Write { token, task }),
-        3 => Asked::Known(Request::Fetch { token, task }),
+        1 => Asked::Known(Request::Read {
+            token,
+            task,
+            minute,
+        }),
+        2 => Asked::Known(Request::Write {
+            token,
+            task,
+            minute,
+        }),
+        3 => Asked::Known(Request::Fetch {
+            token,
+            task,
+            minute,
+        }),
         4 => Asked::Known(Request::Create {
             token,
             task,
@@ -64,16 +81,24 @@ fn pick(
         10 => Asked::Known(Request::Lock { token, task }),
         11 => Asked::Known(Request::Unlock { token, task }),
         12 => Asked::Known(Request::Revoke { token, encoding }),
-        13 => Asked::Known(Request::Load { token, task }),
-        14 => Asked::Known(Request::Dump { token, task }),
+        13 => Asked::Known(Request::Load {
+            token,
+            task,
+            minute,
+        }),
+        14 => Asked::Known(Request::Dump {
+            token,
+            task,
+            minute,
+        }),
         _ => Asked::Unknown,
     }
 }
 
-// The request that the bytes hold.
-pub fn request_of(request: &[u8]) -> Asked
+// The request that the bytes hold, with the minute of an access.
+fn request_at(request: &[u8], minute: u64) -> Asked
     requires { ⌜ length (now request) ≡ requestSize ⌝ }
-    ensures { λ r. ⌜ askedAs r ≡ requestOf (now (request .entry)) ⌝ }
+    ensures { λ r. ⌜ ((ls : List ℕ) → askedAs r ls ≡ requestOf (now (request .entry)) (shiftAs minute ls)) ⌝ }
 {
     pick(
         word_at(request, 0),
@@ -84,5 +109,22 @@ pub fn request_of(request: &[u8]) -> Asked
         word_at(request, 5),
         word_at(request, 6),
         word_at(request, 7),
+        minute,
     )
+}
+
+// The request of a call without leases, whose minute is not looked at.
+pub fn request_of(request: &[u8]) -> Asked
+    requires { ⌜ length (now request) ≡ requestSize ⌝ }
+    ensures { λ r. ⌜ askedAs r [] ≡ requestOf (now (request .entry)) (shiftOf (now (request .entry)) noLeases) ⌝ }
+{
+    request_at(request, 0)
+}
+
+// The request of a call with leases: an access has its minute in word 2.
+pub fn leased_request_of(request: &[u8]) -> Asked
+    requires { ⌜ length (now request) ≡ requestSize ⌝ }
+    ensures { λ r. ⌜ ((ls : List ℕ) → askedAs r ls ≡ requestOf (now (request .entry)) (shiftOf (now (request .entry)) (withLeases ls))) ⌝ }
+{
+    request_at(request, word_at(request, 2))
 }

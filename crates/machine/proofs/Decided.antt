@@ -14,12 +14,12 @@ use Rattle.machine.specs.Parts.{spent, State}
 use Rattle.machine.specs.Refusals.{Told}
 use Rattle.machine.specs.Requests.{Call, Request}
 use Rattle.machine.specs.Steps.{answer, decide, decision, Machine, pass, refused, settle, stop, Verdict, verdict}
-use Rattle.machine.specs.Stops.{atBounds, atChecksum, atEntry, atForm, atKind, atLine, atLock, atNonces, atNumbers, atRecord, atRequest, atRight, atRoom, atStanding, Check, checks, needAll, noncesLeft, Places, places, Refusal, refusalBad, refusalNumber, sizes}
+use Rattle.machine.specs.Stops.{atBounds, atChecksum, atEntry, atForm, atKind, atLease, atLine, atLock, atNonces, atNumbers, atRecord, atRequest, atRight, atRoom, atStanding, atWindow, Check, checks, needAll, noncesLeft, Places, places, Refusal, refusalBad, refusalNumber, sizes}
 use Rattle.machine.proofs.Choices.{by-cond}
 
 -- ---- what a refusal tells
 
-plain-told : (n : ℕ) → 1 ≤ n → n ≤ 14 → (3 ≤ n → n ≤ 4 → ⊥) → Told n 0
+plain-told : (n : ℕ) → 1 ≤ n → n ≤ 16 → (3 ≤ n → n ≤ 4 → ⊥) → Told n 0
 plain-told n a b h = record { least = a; most = b; line = λ i j. absurd (h i j); plain = λ i j. refl }
 
 line-told : (n k : ℕ) → 3 ≤ n → n ≤ 4 → 1 ≤ k → k ≤ 2 → Told n k
@@ -42,6 +42,8 @@ tells atNonces = plain-told _ (omega arith) (omega arith) (λ a b. omega arith)
 tells atRecord = plain-told _ (omega arith) (omega arith) (λ a b. omega arith)
 tells atChecksum = plain-told _ (omega arith) (omega arith) (λ a b. omega arith)
 tells atRoom = plain-told _ (omega arith) (omega arith) (λ a b. omega arith)
+tells atWindow = plain-told _ (omega arith) (omega arith) (λ a b. omega arith)
+tells atLease = plain-told _ (omega arith) (omega arith) (λ a b. omega arith)
 
 -- ---- the verdict
 
@@ -69,6 +71,19 @@ passed-join (x ∷ xs) ys h k = (h .0, passed-join xs ys (h .1) k)
 pub passing : (cs : List Check) → Passed cs → verdict cs ≡ pass
 passing [] h = refl
 passing (c ∷ cs) h = rw (h .0) (passing cs (h .1))
+
+-- one list after another
+abbrev pub andThen : Verdict → Verdict → Verdict
+andThen pass v = v
+andThen (stop r) v = stop r
+
+pub verdict-append : (cs ds : List Check) → verdict (cs ++ ds) ≡ andThen (verdict cs) (verdict ds)
+verdict-append [] ds = refl
+verdict-append (c ∷ cs) ds = go (c .holds) (verdict-append cs ds)
+  where
+    go : (b : Bool) → verdict (cs ++ ds) ≡ andThen (verdict cs) (verdict ds) → cond b (verdict (cs ++ ds)) (stop (c .refusal)) ≡ andThen (cond b (verdict cs) (stop (c .refusal))) (verdict ds)
+    go true h = h
+    go false h = refl
 
 -- facts that hold, each
 abbrev pub AllTrue : List Bool → Type 0
@@ -99,14 +114,14 @@ module _ (m : ℕ) (s : State) (t : List ℕ) (q : Request) (b : List ℕ) (h : 
   abbrev nonces : List Check
   nonces = noncesLeft s t (grant m t q b) ∷ []
 
-  parted : Passed (needAll atRequest (sizes m t ++ p .request)) × Passed (p .tokens ++ (p .rest ++ nonces))
-  parted = passed-split (needAll atRequest (sizes m t ++ p .request)) (p .tokens ++ (p .rest ++ nonces)) h
+  parted : Passed (needAll atRequest (sizes m t ++ p .request)) × Passed ((p .after ++ p .tokens) ++ (p .rest ++ nonces))
+  parted = passed-split (needAll atRequest (sizes m t ++ p .request)) ((p .after ++ p .tokens) ++ (p .rest ++ nonces)) h
 
   pub sizes-passed : AllTrue (sizes m t)
   sizes-passed = true-split (sizes m t) (p .request) (needed atRequest (sizes m t ++ p .request) (parted .0)) .0
 
   last : Passed (p .rest) × Passed nonces
-  last = passed-split (p .rest) nonces (passed-split (p .tokens) (p .rest ++ nonces) (parted .1) .1)
+  last = passed-split (p .rest) nonces (passed-split (p .after ++ p .tokens) (p .rest ++ nonces) (parted .1) .1)
 
   pub rest-passed : Passed (p .rest)
   rest-passed = last .0
@@ -126,6 +141,11 @@ pub by-decision : (P : Decision → Type 0) (m : ℕ) (s : State) (t : List ℕ)
     → P (decide m s t q b)
 unfolding decide
 by-decision P m s t q b f g = by-checks (λ (v : Verdict). P (settle v s t (grant m t q b))) (checks m s t q b) f g
+
+-- one whose checks pass is accepted
+pub granted-by : (σ : Machine) (q : Call) → Passed (checks (length (σ .memory)) (σ .state) (σ .table) (q .request) (q .buffer)) → Accepted σ q
+unfolding answer decide
+granted-by σ q h = rw (passing (checks (length (σ .memory)) (σ .state) (σ .table) (q .request) (q .buffer)) h)
 
 -- ---- a call
 

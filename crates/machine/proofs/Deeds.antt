@@ -25,7 +25,7 @@ use Rattle.machine.specs.Issuing.{issue, newNumber}
 use Rattle.machine.specs.Line.{dead, ill, isLocked, Line, linked, lineOf, lockedFrom, owner, ownerOf, parentNumber}
 use Rattle.machine.specs.Operations.{carried, childOf, climb, Effect, effecting, fresh, grant, grantCreate, grantDerive, grantDump, grantLoad, grantLock, grantMerge, grantRelease, grantRevoke, issuing, mergedOf, namedEntry, nothing, numberOf, partOf, Reply, restOf, revokeNonce, store, transfer}
 use Rattle.machine.specs.Parts.{at, put, size, spent, State}
-use Rattle.machine.specs.Requests.{access, clone, create, derive, dump, executeOnly, fetching, load, lock, merge, reading, release, Request, reset, revoke, taskOf, unlock, Way, writing}
+use Rattle.machine.specs.Requests.{access, clone, create, derive, dump, executeOnly, fetching, load, lock, merge, reading, release, Request, reset, revoke, Shift, taskOf, unlock, Way, writing}
 use Rattle.machine.specs.Stops.{checks}
 use Rattle.machine.specs.Writes.{Book, give, Name, oneLess, opened, vacate, Write, write, written}
 use Rattle.machine.proofs.Basics.{neqb-true, owner-direct, parent, put-all, put2-all, range}
@@ -99,9 +99,9 @@ module _ (m : ℕ) (s : State) (t : List ℕ) (inv : Inv m s t) where
       let e : ownerOf l ≡ i = inv .tiled (ownerOf l) i x (record { direct = owner-direct o; inside = owner-range m s t inv x o here }) (record { direct = sh .direct; inside = ins }) in
       owner-open t l u live op (rw e sh)
 
-  deed-access : (w : Way) (k u : ℕ) (b : List ℕ) → Passed (checks m s t (access w k u) b) → Deed m s t (access w k u) (carried s t (grant m t (access w k u) b))
-  deed-access w k u b h =
-      deed-none (access w k u) (omega arith) refl
+  deed-access : (w : Way) (k u : ℕ) (φ : Shift) (b : List ℕ) → Passed (checks m s t (access w k u φ) b) → Deed m s t (access w k u φ) (carried s t (grant m t (access w k u φ) b))
+  deed-access w k u φ b h =
+      deed-none (access w k u φ) (omega arith) refl
       (λ i x sh nr tc ins.
       let tc′ = touched w _ b x tc in
       owner-shut k u (search) (search, search) (search) x (omega (arith, leb-true (named k .offset + length b) (namedEntry t k .length) (search))) i sh ins)
@@ -498,7 +498,7 @@ module _ (m : ℕ) (s : State) (t : List ℕ) (inv : Inv m s t) where
 
   pub deed-granted : (q : Request) (b : List ℕ) → (IsReset q → ⊥) → Passed (checks m s t q b) → Deed m s t q (carried s t (grant m t q b))
   deed-granted (reset k0 k1 ν) b nr h = absurd (nr resets)
-  deed-granted (access w k u) b nr h = deed-access w k u b h
+  deed-granted (access w k u φ) b nr h = deed-access w k u φ b h
   deed-granted (create k u l x p c) b nr h =
       let e : Entry = namedEntry t k in
       deed-create (create k u l x p c) (numberOf k) l x p c
@@ -553,13 +553,13 @@ module _ (m : ℕ) (s : State) (t : List ℕ) (inv : Inv m s t) where
   deed-granted (lock k u) b nr h =
       deed-lock (lock k u) (numberOf k) true u (search) (search, search) (search) (ltb-true u (2 ^ 55) (search)) (not-true _ (search)) refl
   deed-granted (unlock k u) b nr h = deed-lock (unlock k u) (numberOf k) false 0 (search) (search, search) (search) (omega arith) refl refl
-  deed-granted (load k u) b nr h =
-      let ends = rest-passed m s t (load k u) b h .1 .0 in
-      deed-image (load k u) k 0 _ (search) (search, search) (search) (λ x. by x (leb-true (farthest (piecesOf b)) (namedEntry t k .length) ends))
+  deed-granted (load k u φ) b nr h =
+      let ends = rest-passed m s t (load k u φ) b h .1 .0 in
+      deed-image (load k u φ) k 0 _ (search) (search, search) (search) (λ x. by x (leb-true (farthest (piecesOf b)) (namedEntry t k .length) ends))
     where
       by : (x : ℕ) → farthest (piecesOf b) ≤ namedEntry t k .length → Touches (grantLoad (namedEntry t k) b .effect) x → In (namedEntry t k) x
       by x e (inl h) = omega (arith, placed-touches (namedEntry t k .base) (piecesOf b) x h)
-  deed-granted (dump k u) b nr h = deed-image (dump k u) k _ _ (search) (search, search) (search) by
+  deed-granted (dump k u φ) b nr h = deed-image (dump k u φ) k _ _ (search) (search, search) (search) by
     where
       by : (x : ℕ) → Touches (grantDump (namedEntry t k) .effect) x → In (namedEntry t k) x
       by x (inr h) = h

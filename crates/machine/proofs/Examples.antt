@@ -7,6 +7,7 @@ use Rattle.bits.specs.Bytes.{bytes, lowBytes, lowNumber, number}
 use Rattle.layout.specs.Entry.{directNumber, directOf, entryNumber, entryOf, indirectNumber, indirectOf}
 use Rattle.layout.specs.Examples.{Agree}
 use Rattle.layout.specs.Form.{illFormed}
+use Rattle.leases.specs.Lease.{allSound, firstLeases, isOpen, leasesOf}
 use Rattle.tokens.specs.Permissions.{within}
 use Rattle.bits.specs.SipHash.{absorb, add64, compress, finish, padded, rotl, siphash, sipRound, word}
 use Rattle.layout.specs.Tag.{tagOf}
@@ -19,7 +20,7 @@ use Rattle.machine.specs.Steps.{answer, decide, decision, step}
 use Rattle.machine.proofs.Lent.{as-long}
 
 pub examples-agree : Agree examples
-unfolding bytes number lowBytes lowNumber directNumber directOf entryNumber entryOf indirectNumber indirectOf illFormed within absorb add64 compress finish padded rotl siphash sipRound word tagOf passOver seek walk climb at cleared put size decide
+unfolding bytes number lowBytes lowNumber directNumber directOf entryNumber entryOf indirectNumber indirectOf illFormed allSound firstLeases isOpen leasesOf within absorb add64 compress finish padded rotl siphash sipRound word tagOf passOver seek walk climb at cleared put size decide
 examples-agree = refl
 
 -- and what is decided on a list is what the machine's run of it comes to

@@ -120,7 +120,7 @@ module _ (m : ℕ) (s : State) (t : List ℕ) (k : ℕ) (old : leb (s .total) (m
   -- place 1 asks for the range, and no other place looks at the total
   places-same : (q : Request) (b : List ℕ) → places m (totalled s k) t q b ≡ places m s t q b
   places-same (reset k0 k1 ν) b = refl
-  places-same (access w j u) b = rw (old, new)
+  places-same (access w j u φ) b = rw (old, new)
   places-same (create j u l x p c) b = rw (old, new)
   places-same (merge i j u c) b = rw (old, new)
   places-same (derive j o l p c) b = rw (old, new)
@@ -130,8 +130,8 @@ module _ (m : ℕ) (s : State) (t : List ℕ) (k : ℕ) (old : leb (s .total) (m
   places-same (lock j u) b = rw (old, new)
   places-same (unlock j u) b = rw (old, new)
   places-same (revoke j c) b = rw (old, new)
-  places-same (load j u) b = rw (old, new)
-  places-same (dump j u) b = rw (old, new)
+  places-same (load j u φ) b = rw (old, new)
+  places-same (dump j u φ) b = rw (old, new)
 
   module _ (q : Request) (b : List ℕ) where
     abbrev g : Grant

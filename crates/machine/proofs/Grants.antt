@@ -20,7 +20,7 @@ use Rattle.bits.specs.Bytes.{AllBytes}
 use Rattle.machine.specs.Images.{mostText, piecesIn, piecesOf}
 use Rattle.machine.specs.Operations.{Effect, Fill, fillFrom, Grant, grant, grantRelease, namedEntry, numberOf, partOf, placed, Store, textFrom, transfer, unfilled}
 use Rattle.machine.specs.Parts.{size, State}
-use Rattle.machine.specs.Requests.{access, clone, create, derive, dump, executeOnly, fetching, load, lock, merge, reading, release, Request, reset, revoke, unlock, Way, writing}
+use Rattle.machine.specs.Requests.{access, clone, create, derive, dump, executeOnly, fetching, load, lock, merge, reading, release, Request, reset, revoke, Shift, unlock, Way, writing}
 use Rattle.machine.specs.Stops.{checks}
 use Rattle.machine.specs.Writes.{give}
 use Rattle.machine.proofs.Basics.{neqb-true, range}
@@ -58,8 +58,8 @@ either f g (inr b) = g b
 pub unless : {A B : Type 0} → A ⊎ B → (A → ⊥) → B
 unless h n = either (λ a. absurd (n a)) (λ b. b) h
 
-pub access-inside : (m : ℕ) (s : State) (t : List ℕ) (w : Way) (k u : ℕ) (b : List ℕ) → Passed (checks m s t (access w k u) b) → namedEntry t k .base + named k .offset + length b ≤ m
-access-inside m s t w k u b h =
+pub access-inside : (m : ℕ) (s : State) (t : List ℕ) (w : Way) (k u : ℕ) (φ : Shift) (b : List ℕ) → Passed (checks m s t (access w k u φ) b) → namedEntry t k .base + named k .offset + length b ≤ m
+access-inside m s t w k u φ b h =
     let e : Entry = namedEntry t k in
     let full : e .kind ≢ 0 = neqb-true (e .kind) 0 (search) in
     let formed : illFormed m e ≡ false = line-formed m t (numberOf k) (search) in
@@ -86,7 +86,7 @@ pieces-bytes b = by (said b) (said-bytes b)
 
 pub granted-fits : (m : ℕ) (s : State) (t : List ℕ) (q : Request) (b : List ℕ) → Passed (checks m s t q b) → Fitting m t q b (grant m t q b)
 granted-fits m s t (reset k0 k1 ν) b h = record { effect = (tt, tt); encoding = omega arith; within = inl resets; few = omega arith }
-granted-fits m s t (access w k u) b h = record { effect = transfer-fits m w _ b (omega (arith, access-inside m s t w k u b h)); encoding = omega arith; within = inr tt; few = omega arith }
+granted-fits m s t (access w k u φ) b h = record { effect = transfer-fits m w _ b (omega (arith, access-inside m s t w k u φ b h)); encoding = omega arith; within = inr tt; few = omega arith }
 granted-fits m s t (create k u l x p c) b h = record {
   effect = (tt, tt);
   encoding = omega (arith, leb-true c 3 (search));
@@ -100,6 +100,6 @@ granted-fits m s t (clone k) b h = record { effect = (tt, tt); encoding = omega 
 granted-fits m s t (release k) b h = record { effect = (tt, tt); encoding = omega arith; within = inr (calm-within (size t) (grantRelease m t (numberOf k) .writes) (release-calm m t (numberOf k))); few = omega (arith, calm-giving (grantRelease m t (numberOf k) .writes) (release-calm m t (numberOf k))) }
 granted-fits m s t (lock k u) b h = record { effect = (tt, tt); encoding = omega arith; within = inr tt; few = omega arith }
 granted-fits m s t (unlock k u) b h = record { effect = (tt, tt); encoding = omega arith; within = inr tt; few = omega arith }
-granted-fits m s t (load k u) b h = record { effect = (placed-fits _ b (piecesOf b) (pieces-bytes b), tt); encoding = omega arith; within = inr tt; few = omega arith }
-granted-fits m s t (dump k u) b h = record { effect = (tt, leb-true (writtenLength (namedEntry t k .length)) mostText (search)); encoding = omega arith; within = inr tt; few = omega arith }
+granted-fits m s t (load k u φ) b h = record { effect = (placed-fits _ b (piecesOf b) (pieces-bytes b), tt); encoding = omega arith; within = inr tt; few = omega arith }
+granted-fits m s t (dump k u φ) b h = record { effect = (tt, leb-true (writtenLength (namedEntry t k .length)) mostText (search)); encoding = omega arith; within = inr tt; few = omega arith }
 granted-fits m s t (revoke k c) b h = record { effect = ((λ i. search (bytes-zeros), tt), tt); encoding = omega (arith, leb-true c 3 (search)); within = inr (ltb-true (numberOf k) (size t) (search), tt); few = omega arith }

@@ -20,6 +20,7 @@ pub mod Refused
 pub mod Rows
 pub mod Runs
 pub mod Settled
+pub mod ShiftWindows
 pub mod SliceLaws
 pub mod Sums
 pub mod TableLaws

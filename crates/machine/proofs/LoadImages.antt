@@ -27,13 +27,13 @@ use Rattle.machine.specs.Images.{mostText, piecesOf, spares}
 use Rattle.machine.specs.LoadImages.{AsAccesses, dumpCall, Dumped, Dumps, loadCall, Loaded, Loads, MayDump, MayLoad, Restores, segmentOf, Shut, textIn}
 use Rattle.machine.specs.Operations.{Decision, grantLoad, namedEntry, numberOf, placed}
 use Rattle.machine.specs.Parts.{State}
-use Rattle.machine.specs.Requests.{access, Call, dump, load, reading, Request, rightOf, Way, writing}
+use Rattle.machine.specs.Requests.{access, Call, dump, load, reading, Request, rightOf, Shift, Way, writing}
 use Rattle.machine.specs.Steps.{answer, decide, decision, Machine, pass, step, stored, verdict}
 use Rattle.machine.specs.Stops.{checks, places}
 use Rattle.machine.specs.WholeDerive.{accessCall, lengthOf}
 use Rattle.machine.specs.Writes.{Name}
 use Rattle.machine.proofs.Basics.{neqb-true, range}
-use Rattle.machine.proofs.Decided.{accepted, Passed, passing}
+use Rattle.machine.proofs.Decided.{accepted, granted-by, Passed}
 use Rattle.machine.proofs.Effects.{memory-other}
 use Rattle.machine.proofs.Fates.{Touches}
 use Rattle.machine.proofs.Fuel.{line-formed}
@@ -59,11 +59,11 @@ segment-in m t k full formed = range m (namedEntry t k) (neqb-true (namedEntry t
 
 pub loads-so : Loads
 unfolding Loads step answer
-loads-so σ k u b ok =
+loads-so σ k u φ b ok =
     let m : ℕ = length (σ .memory) in
     let e : Entry = namedEntry (σ .table) k in
-    let both = accepted σ (loadCall k u b) ok in
-    let all : Passed (checks m (σ .state) (σ .table) (load k u) b) = both .0 in
+    let both = accepted σ (loadCall k u φ b) ok in
+    let all : Passed (checks m (σ .state) (σ .table) (load k u φ) b) = both .0 in
     let done = both .1 in
     let ends : farthest (piecesOf b) ≤ e .length = leb-true (farthest (piecesOf b)) (e .length) (search) in
     let there = segment-in m (σ .table) k (search) (line-formed m (σ .table) (numberOf k) (search)) in
@@ -90,11 +90,11 @@ front-laid b ws n l h =
 
 pub dumps-so : Dumps
 unfolding Dumps step answer
-dumps-so σ k u b ok =
+dumps-so σ k u φ b ok =
     let m : ℕ = length (σ .memory) in
     let e : Entry = namedEntry (σ .table) k in
-    let both = accepted σ (dumpCall k u b) ok in
-    let all : Passed (checks m (σ .state) (σ .table) (dump k u) b) = both .0 in
+    let both = accepted σ (dumpCall k u φ b) ok in
+    let all : Passed (checks m (σ .state) (σ .table) (dump k u φ) b) = both .0 in
     let done = both .1 in
     let there = segment-in m (σ .table) k (search) (line-formed m (σ .table) (numberOf k) (search)) in
     let part : length (segmentOf σ k) ≡ e .length = simp (length-take, length-drop) (omega (arith, there .1)) in
@@ -112,10 +112,6 @@ first-byte m t k zero full formed =
     let none = eqb-true (named k .offset) 0 zero in
     le-leb (named k .offset + 1) (namedEntry t k .length) (omega (arith, there .0, none))
 
-granted-by : (σ : Machine) (q : Call) → Passed (checks (length (σ .memory)) (σ .state) (σ .table) (q .request) (q .buffer)) → Accepted σ q
-unfolding answer decide
-granted-by σ q h = rw (passing (checks (length (σ .memory)) (σ .state) (σ .table) (q .request) (q .buffer)) h)
-
 -- a text that is read spares both refusals
 spared : (r : ℕ) (b : List ℕ) (ps : List Piece) → r ≢ 0 → said b ≡ loads ps → spares r b ≡ true
 unfolding spares
@@ -125,19 +121,19 @@ pieces-are : (b : List ℕ) (ps : List Piece) → said b ≡ loads ps → pieces
 unfolding piecesOf
 pieces-are b ps e = rw e
 
-module _ (σ : Machine) (k u : ℕ) (b : List ℕ) where
+module _ (σ : Machine) (k u : ℕ) (φ : Shift) (b : List ℕ) where
   abbrev m : ℕ
   m = length (σ .memory)
 
   abbrev t : List ℕ
   t = σ .table
 
-  may-load : Accepted σ (loadCall k u b) → MayLoad σ k u b
+  may-load : Accepted σ (loadCall k u φ b) → MayLoad σ k u φ b
   may-load ok =
-      let a : Passed (checks m (σ .state) t (load k u) b) = accepted σ (loadCall k u b) ok .0 in
+      let a : Passed (checks m (σ .state) t (load k u φ) b) = accepted σ (loadCall k u φ b) ok .0 in
       let one = first-byte m t k (search) (search) (line-formed m t (numberOf k) (search)) in
       record {
-        access = granted-by σ (accessCall writing k u (0 ∷ [])) (search, (search, (search, (search, (search, (search, (search, (search, (search, (search, (refl, (refl, (search, (search, (search, (search, (search, (search, (search, (one, (search, tt)))))))))))))))))))));
+        access = granted-by σ (accessCall writing k u φ (0 ∷ [])) (search, (search, (search, (search, (search, (search, (search, (search, (search, (search, (refl, (refl, (search, (search, (search, (search, (search, (search, (search, (search, (search, (search, (search, (search, (one, (search, tt))))))))))))))))))))))))));
         offset = eqb-true (named k .offset) 0 (search);
         short = leb-true (length b) 65536 (search);
         pieces = piecesOf b;
@@ -145,79 +141,79 @@ module _ (σ : Machine) (k u : ℕ) (b : List ℕ) where
         inside = leb-true (farthest (piecesOf b)) (lengthOf σ k) (search);
       }
 
-  loaded-by : MayLoad σ k u b → Accepted σ (loadCall k u b)
+  loaded-by : MayLoad σ k u φ b → Accepted σ (loadCall k u φ b)
   loaded-by h =
-      let a : Passed (checks m (σ .state) t (access writing k u) (0 ∷ [])) = accepted σ (accessCall writing k u (0 ∷ [])) (h .access) .0 in
+      let a : Passed (checks m (σ .state) t (access writing k u φ) (0 ∷ [])) = accepted σ (accessCall writing k u φ (0 ∷ [])) (h .access) .0 in
       let offset = eq-eqb (named k .offset) 0 (h .offset) in
       let long = le-leb (length b) mostText (h .short) in
       let twelve = spared 12 b (h .pieces) (λ e. omega (arith, e)) (h .says) in
       let thirteen = spared 13 b (h .pieces) (λ e. omega (arith, e)) (h .says) in
       let ends : leb (farthest (piecesOf b)) (lengthOf σ k) ≡ true = rw (pieces-are b (h .pieces) (h .says)) (le-leb (farthest (h .pieces)) (lengthOf σ k) (h .inside)) in
-      granted-by σ (loadCall k u b)
-      (search, (search, (search, (search, (search, (search, (search, (search, (search, (search, (offset, (long, (twelve, (thirteen, (search, (search, (search, (search, (search, (search, (search, (ends, (search, tt)))))))))))))))))))))))
+      granted-by σ (loadCall k u φ b)
+      (search, (search, (search, (search, (search, (search, (search, (search, (search, (search, (offset, (long, (search, (search, (search, (twelve, (thirteen, (search, (search, (search, (search, (search, (search, (search, (search, (search, (ends, (search, tt))))))))))))))))))))))))))))
 
-  may-dump : Accepted σ (dumpCall k u b) → MayDump σ k u b
+  may-dump : Accepted σ (dumpCall k u φ b) → MayDump σ k u φ b
   may-dump ok =
-      let a : Passed (checks m (σ .state) t (dump k u) b) = accepted σ (dumpCall k u b) ok .0 in
+      let a : Passed (checks m (σ .state) t (dump k u φ) b) = accepted σ (dumpCall k u φ b) ok .0 in
       let one = first-byte m t k (search) (search) (line-formed m t (numberOf k) (search)) in
       record {
-        access = granted-by σ (accessCall reading k u (0 ∷ [])) (search, (search, (search, (search, (search, (search, (search, (search, (search, (search, (refl, (refl, (search, (search, (search, (search, (search, (search, (search, (one, (search, tt)))))))))))))))))))));
+        access = granted-by σ (accessCall reading k u φ (0 ∷ [])) (search, (search, (search, (search, (search, (search, (search, (search, (search, (search, (refl, (refl, (search, (search, (search, (search, (search, (search, (search, (search, (search, (search, (search, (search, (one, (search, tt))))))))))))))))))))))))));
         offset = eqb-true (named k .offset) 0 (search);
         short = leb-true (writtenLength (lengthOf σ k)) 65536 (search);
         room = leb-true (writtenLength (lengthOf σ k)) (length b) (search);
       }
 
-  dumped-by : MayDump σ k u b → Accepted σ (dumpCall k u b)
+  dumped-by : MayDump σ k u φ b → Accepted σ (dumpCall k u φ b)
   dumped-by h =
-      let a : Passed (checks m (σ .state) t (access reading k u) (0 ∷ [])) = accepted σ (accessCall reading k u (0 ∷ [])) (h .access) .0 in
+      let a : Passed (checks m (σ .state) t (access reading k u φ) (0 ∷ [])) = accepted σ (accessCall reading k u φ (0 ∷ [])) (h .access) .0 in
       let offset = eq-eqb (named k .offset) 0 (h .offset) in
       let long = le-leb (writtenLength (lengthOf σ k)) mostText (h .short) in
       let room = le-leb (writtenLength (lengthOf σ k)) (length b) (h .room) in
-      granted-by σ (dumpCall k u b)
-      (search, (search, (search, (search, (search, (search, (search, (search, (search, (search, (offset, (search, (search, (search, (search, (search, (search, (search, (long, (room, (search, tt)))))))))))))))))))))
+      granted-by σ (dumpCall k u φ b)
+      (search, (search, (search, (search, (search, (search, (search, (search, (search, (search, (offset, (search, (search, (search, (search, (search, (search, (search, (search, (search, (search, (search, (search, (long, (room, (search, tt))))))))))))))))))))))))))
 
 pub as-accesses : AsAccesses
 as-accesses = record { loads = may-load; load = loaded-by; dumps = may-dump; dump = dumped-by }
 
 pub shut : Shut
 unfolding Shut
-shut σ k closed token task b named-so = (
-  λ ok. closed writing token task (0 ∷ []) (ap (λ (n : Name). n .number) named-so) (ap (λ (n : Name). n .tag) named-so) (may-load σ token task b ok .access),
-  λ ok. closed reading token task (0 ∷ []) (ap (λ (n : Name). n .number) named-so) (ap (λ (n : Name). n .tag) named-so) (may-dump σ token task b ok .access),
+shut σ k closed token task φ b named-so = (
+  λ ok. closed writing token task φ (0 ∷ []) (ap (λ (n : Name). n .number) named-so) (ap (λ (n : Name). n .tag) named-so) (may-load σ token task φ b ok .access),
+  λ ok. closed reading token task φ (0 ∷ []) (ap (λ (n : Name). n .number) named-so) (ap (λ (n : Name). n .tag) named-so) (may-dump σ token task φ b ok .access),
 )
 
 -- ---- what was dumped is restored
 
-module _ (τ : Machine) (j v : ℕ) (bs : List ℕ) (bytes : AllBytes bs) (short : writtenLength (length bs) ≤ mostText) (none : named j .offset ≡ 0) (equal : lengthOf τ j ≡ length bs)
-    (ok : Accepted τ (accessCall writing j v (0 ∷ []))) where
+module _ (τ : Machine) (j v : ℕ) (ψ : Shift) (bs : List ℕ) (bytes : AllBytes bs) (short : writtenLength (length bs) ≤ mostText) (none : named j .offset ≡ 0) (equal : lengthOf τ j ≡ length bs)
+    (ok : Accepted τ (accessCall writing j v ψ (0 ∷ []))) where
   abbrev q : Call
-  q = loadCall j v (written bs)
+  q = loadCall j v ψ (written bs)
 
   back : text.Restores bs
   back = restored bs bytes (omega (arith, short))
 
   granted : Accepted τ q
-  granted = loaded-by τ j v (written bs) (record { access = ok; offset = none; short = omega (arith, written-long bs, short); pieces = back .pieces; says = back .says; inside = omega (arith, back .fits, equal) })
+  granted = loaded-by τ j v ψ (written bs) (record { access = ok; offset = none; short = omega (arith, written-long bs, short); pieces = back .pieces; says = back .says; inside = omega (arith, back .fits, equal) })
 
   pub text-restored : Accepted τ q × (segmentOf (step τ q) j ≡ bs)
   unfolding Loads
   text-restored =
-      let did = loads-so τ j v (written bs) granted in
+      let did = loads-so τ j v ψ (written bs) granted in
       let same : loads (did .pieces) ≡ loads (back .pieces) = sym (did .says) ∙ back .says in
       let pieces : did .pieces ≡ back .pieces = cc in
-      let a : Passed (checks (length (τ .memory)) (τ .state) (τ .table) (access writing j v) (0 ∷ [])) = accepted τ (accessCall writing j v (0 ∷ [])) ok .0 in
+      let a : Passed (checks (length (τ .memory)) (τ .state) (τ .table) (access writing j v ψ) (0 ∷ [])) = accepted τ (accessCall writing j v ψ (0 ∷ [])) ok .0 in
       let there = segment-in (length (τ .memory)) (τ .table) j (search) (line-formed (length (τ .memory)) (τ .table) (numberOf j) (search)) in
       let part : length (segmentOf τ j) ≡ lengthOf τ j = simp (length-take, length-drop) (omega (arith, there .1)) in
       (granted, did .segment ∙ ap (λ (ps : List Piece). apply ps (segmentOf τ j)) pieces ∙ back .restores (segmentOf τ j) (part ∙ equal))
 
 pub restores : Restores
 unfolding Restores Dumps
-restores σ k u b bytes ok τ j v none equal opened =
+restores σ k u φ b bytes ok τ j v ψ none equal opened =
     let m : ℕ = length (σ .memory) in
     let e : Entry = namedEntry (σ .table) k in
-    let all : Passed (checks m (σ .state) (σ .table) (dump k u) b) = accepted σ (dumpCall k u b) ok .0 in
+    let all : Passed (checks m (σ .state) (σ .table) (dump k u φ) b) = accepted σ (dumpCall k u φ b) ok .0 in
     let there = segment-in m (σ .table) k (search) (line-formed m (σ .table) (numberOf k) (search)) in
     let part : length (segmentOf σ k) ≡ e .length = simp (length-take, length-drop) (omega (arith, there .1)) in
     let short : writtenLength (e .length) ≤ mostText = leb-true (writtenLength (e .length)) mostText (search) in
     let own : AllBytes (segmentOf σ k) = bytes-take (e .length) (drop (e .base) (σ .memory)) (bytes-drop (e .base) (σ .memory) bytes) in
-    rw (dumps-so σ k u b ok .text) (text-restored τ j v (segmentOf σ k) own (rw part short) none (equal ∙ sym part) opened)
+    rw (dumps-so σ k u φ b ok .text) (text-restored τ j v ψ (segmentOf σ k) own (rw part short) none (equal ∙ sym part) opened)

@@ -14,7 +14,7 @@ use Rattle.machine.specs.Parts.{begun, spent, State}
 use Rattle.machine.specs.Requests.{access, Call, clone, create, derive, dump, executeOnly, load, lock, merge, release, Request, reset, revoke, taskOf, unlock}
 use Rattle.machine.specs.Rows.{Among, ended, numbers, Ordered, row, Tasks}
 use Rattle.machine.specs.Steps.{answer, decide, Machine, pass, settle, stop, Verdict, verdict}
-use Rattle.machine.specs.Stops.{atRequest, Check, checks, needAll, noncesLeft, places, refusalNumber, settings, sizes}
+use Rattle.machine.specs.Stops.{atRequest, Check, checks, needAll, noncesLeft, Places, places, refusalNumber, settings, sizes}
 use Rattle.machine.specs.Writes.{opened}
 use Rattle.machine.proofs.Choices.{by-both, by-cond}
 use Rattle.machine.proofs.Decided.{needed, Passed, passed-split, true-split}
@@ -51,13 +51,16 @@ last-passed (x ∷ cs) c h = by-both (λ (v w : Verdict). v ≡ w) (x .holds) (�
 
 module _ (m : ℕ) (s : State) (t : List ℕ) (q : Request) (b : List ℕ) where
   abbrev before : List Check
-  before = needAll atRequest (sizes m t ++ places m s t q b .request) ++ (places m s t q b .tokens ++ places m s t q b .rest)
+  before = needAll atRequest (sizes m t ++ places m s t q b .request) ++ ((places m s t q b .after ++ places m s t q b .tokens) ++ places m s t q b .rest)
 
   abbrev last : Check
   last = noncesLeft s t (grant m t q b)
 
   judged : checks m s t q b ≡ before ++ (last ∷ [])
-  judged = simp append-assoc
+  judged =
+      let p : Places = places m s t q b in
+      ap (λ (cs : List Check). needAll atRequest (sizes m t ++ p .request) ++ cs) (sym (append-assoc (p .after ++ p .tokens) (p .rest) (last ∷ [])))
+      ∙ sym (append-assoc (needAll atRequest (sizes m t ++ p .request)) ((p .after ++ p .tokens) ++ p .rest) (last ∷ []))
 
   -- one that issues has all its checks in its row
   issues : numbers 0 (checks m s t q b) ≡ row q → Stopped (0 ∷ row q) (verdict (checks m s t q b))
@@ -72,7 +75,7 @@ module _ (m : ℕ) (s : State) (t : List ℕ) (q : Request) (b : List ℕ) where
   -- with place 1 passed, a request that takes the state and issues nothing passes place 11
   calm : (more : List Bool) → places m s t q b .request ≡ settings s t ++ more → Calm (grant m t q b .writes) → Passed before → last .holds ≡ true
   calm more r c p =
-      let one = needed atRequest (sizes m t ++ places m s t q b .request) (passed-split (needAll atRequest (sizes m t ++ places m s t q b .request)) (places m s t q b .tokens ++ places m s t q b .rest) p .0) in
+      let one = needed atRequest (sizes m t ++ places m s t q b .request) (passed-split (needAll atRequest (sizes m t ++ places m s t q b .request)) ((places m s t q b .after ++ places m s t q b .tokens) ++ places m s t q b .rest) p .0) in
       let two = true-split (settings s t) more (rw r at (true-split (sizes m t) (places m s t q b .request) one .1)) .0 in
       rw (calm-still (grant m t q b .encoding) (opened s t) (grant m t q b .writes) c .state) (two .1 .1 .0)
 
@@ -81,15 +84,18 @@ module _ (m : ℕ) (s : State) (t : List ℕ) (q : Request) (b : List ℕ) where
 fifth : {a b c d : ℕ} {ns : List ℕ} → List·Memᴰ 5 (a ∷ b ∷ c ∷ d ∷ 5 ∷ ns)
 fifth = List·Memᴰ·tail (List·Memᴰ·tail (List·Memᴰ·tail (List·Memᴰ·tail (List·Memᴰ·head refl))))
 
--- and after 12 and 13
-sixth : {a b c d e f : ℕ} {ns : List ℕ} → List·Memᴰ 5 (a ∷ b ∷ c ∷ d ∷ e ∷ f ∷ 5 ∷ ns)
-sixth = List·Memᴰ·tail (List·Memᴰ·tail fifth)
+-- and after 16, and after 12 and 13 too
+sixth : {a b c d e : ℕ} {ns : List ℕ} → List·Memᴰ 5 (a ∷ b ∷ c ∷ d ∷ e ∷ 5 ∷ ns)
+sixth = List·Memᴰ·tail fifth
+
+eighth : {a b c d e f g : ℕ} {ns : List ℕ} → List·Memᴰ 5 (a ∷ b ∷ c ∷ d ∷ e ∷ f ∷ g ∷ 5 ∷ ns)
+eighth = List·Memᴰ·tail (List·Memᴰ·tail sixth)
 
 -- its checks are those of its row, what stops it is one of them, and it carries a task only if it is judged for the lock
 row-of : (m : ℕ) (s : State) (t : List ℕ) (q : Request) (b : List ℕ)
     → (numbers 0 (checks m s t q b) ≡ ended (row q)) × Stopped (0 ∷ row q) (verdict (checks m s t q b)) × ((taskOf q ≡ 0) ⊎ List·Memᴰ 5 (row q))
 row-of m s t (reset k0 k1 ν) b = (refl, spares m s t (reset k0 k1 ν) b refl (λ p. le-leb ν spent (omega (arith, ltb-true ν spent (p .1 .1 .1 .1 .1 .1 .0)))), inl refl)
-row-of m s t (access w k u) b = (refl, spares m s t (access w k u) b refl (calm m s t (access w k u) b _ refl tt), inr fifth)
+row-of m s t (access w k u φ) b = (refl, spares m s t (access w k u φ) b refl (calm m s t (access w k u φ) b _ refl tt), inr sixth)
 row-of m s t (create k u l x p c) b = (refl, issues m s t (create k u l x p c) b refl, inr fifth)
 row-of m s t (merge j k u c) b = (refl, issues m s t (merge j k u c) b refl, inr fifth)
 row-of m s t (derive k o l p c) b = (refl, issues m s t (derive k o l p c) b refl, inl refl)
@@ -98,8 +104,8 @@ row-of m s t (clone k) b = (refl, spares m s t (clone k) b refl (calm m s t (clo
 row-of m s t (release k) b = (refl, spares m s t (release k) b refl (calm m s t (release k) b _ refl (release-calm m t _)), inl refl)
 row-of m s t (lock k u) b = (refl, spares m s t (lock k u) b refl (calm m s t (lock k u) b _ refl tt), inr fifth)
 row-of m s t (unlock k u) b = (refl, spares m s t (unlock k u) b refl (calm m s t (unlock k u) b _ refl tt), inr fifth)
-row-of m s t (load k u) b = (refl, spares m s t (load k u) b refl (calm m s t (load k u) b _ refl tt), inr sixth)
-row-of m s t (dump k u) b = (refl, spares m s t (dump k u) b refl (calm m s t (dump k u) b _ refl tt), inr fifth)
+row-of m s t (load k u φ) b = (refl, spares m s t (load k u φ) b refl (calm m s t (load k u φ) b _ refl tt), inr eighth)
+row-of m s t (dump k u φ) b = (refl, spares m s t (dump k u φ) b refl (calm m s t (dump k u φ) b _ refl tt), inr sixth)
 row-of m s t (revoke k c) b = (refl, issues m s t (revoke k c) b refl, inl refl)
 
 pub rows-ordered : Ordered

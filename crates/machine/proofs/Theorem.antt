@@ -230,8 +230,8 @@ module _ (ρ : Machine) (inv₀ : Well ρ) (after qs : List Call) (nr : Unreset 
       (young (subst (λ (j : ℕ). at (D .table) j .kind ≢ 0) e f) (subst (λ (j : ℕ). at (D .table) j .tag ≡ k .tag) e g))
 
   shut-off : Closed D k
-  shut-off w token task buffer en et ok =
-      let q : Call = record { request = access w token task; buffer = buffer } in
+  shut-off w token task shift buffer en et ok =
+      let q : Call = record { request = access w token task shift; buffer = buffer } in
       let p = accepted D q ok .0 in
       still-open (numberOf token) en
       (neqb-true (at (D .table) (numberOf token) .kind) 0 (search))

@@ -23,16 +23,18 @@ use Rattle.machine.specs.Issuing.{issue, newNumber}
 use Rattle.machine.specs.Line.{dead, ill, Line, linked, lineOf, lockedFrom, owner, ownerOf, parentNumber, walk}
 use Rattle.machine.specs.Operations.{childOf, Grant, grant, namedEntry, numberOf}
 use Rattle.machine.specs.Parts.{at, mostEntries, mostFree, mostMemory, moved, put, size, spent, State}
-use Rattle.machine.specs.Requests.{access, Call, derive, rightOf, Way}
+use Rattle.machine.specs.Requests.{access, Call, derive, rightOf, Shift, Way}
 use Rattle.machine.specs.Searches.{FirstFree}
+use Rattle.machine.specs.ShiftWindows.{Within}
 use Rattle.machine.specs.Steps.{answer, decide, Machine, pass, settle, step, stop, Verdict, verdict}
-use Rattle.machine.specs.Stops.{atRequest, Check, checks, needAll, noncesLeft, places, refusalNumber, settings, sizes, taskFits, transferFits}
+use Rattle.machine.specs.Stops.{atRequest, Check, checks, needAll, noncesLeft, places, refusalNumber, settings, shiftFits, sizes, taskFits, transferFits}
 use Rattle.machine.specs.WholeDerive.{accessCall, AsExecuteOnly, Bounds, deriveCall, lengthOf, Parts, PassedOn, Whole}
 use Rattle.machine.specs.Writes.{Name, nameOf, oneLess, tokenFor}
 use Rattle.machine.proofs.Basics.{link, neqb-true, owner-direct, parent, range}
 use Rattle.machine.proofs.Choices.{by-both, by-cond}
 use Rattle.machine.proofs.Decided.{accepted, AllTrue, need-all, Passed, passed-join, passing, sizes-passed, true-join}
 use Rattle.machine.proofs.Fuel.{line-enough, Live, number-first, walk-owns}
+use Rattle.machine.proofs.ShiftWindows.{Held, within-held}
 use Rattle.machine.proofs.TableLaws.{at-other, at-same, in-table, length-put, size-put}
 use Rattle.machine.proofs.WriteLaws.{names}
 use Rattle.machine.proofs.Written.{Good, issue-indirect, parent-named, parent-tagged, recount-formed, recount-good}
@@ -238,10 +240,13 @@ module _ (σ : Machine) (fine : Sound σ) (k p c : ℕ) (b : List ℕ) (ok : Acc
   unfolding step
   left = rw (accepted σ whole ok .1)
 
-  module _ (w : Way) (allowed : within (rightOf w) p ≡ true) (x y u : ℕ) (d : List ℕ) (nx : nameIn x ≡ nameIn token) (ny : nameIn y ≡ nameIn k) (ox : named x .offset ≡ named y .offset)
-      (opened : Accepted σ (accessCall w y u d)) where
-    through : Passed (checks m s t (access w y u) d)
-    through = accepted σ (accessCall w y u d) opened .0
+  module _ (w : Way) (allowed : within (rightOf w) p ≡ true) (x y u : ℕ) (φ ψ : Shift) (d : List ℕ) (nx : nameIn x ≡ nameIn token) (ny : nameIn y ≡ nameIn k) (ox : named x .offset ≡ named y .offset)
+      (opened : Accepted σ (accessCall w y u ψ d)) (admitted : Within φ x) where
+    shift : Held φ x
+    shift = within-held φ x admitted
+
+    through : Passed (checks m s t (access w y u ψ) d)
+    through = accepted σ (accessCall w y u ψ d) opened .0
 
     at-x : numberOf x ≡ new
     at-x = ap (λ (z : Name). z .number) (nx ∙ token-names)
@@ -253,64 +258,40 @@ module _ (σ : Machine) (fine : Sound σ) (k p c : ℕ) (b : List ℕ) (ok : Acc
     tag-x = ap (λ (z : Name). z .tag) (nx ∙ token-names)
 
     -- place 1
-    asked : AllTrue (sizes m t′ ++ (settings s′ t′ ++ (taskFits u ∷ transferFits d)))
+    asked : AllTrue (sizes m t′ ++ (settings s′ t′ ++ (taskFits u ∷ (transferFits d ++ shiftFits φ))))
     asked =
-        let h : Passed (checks m s t (access w y u) d) = through in
+        let h : Passed (checks m s t (access w y u ψ) d) = through in
         let long : length t′ ≡ length t = length-put _ _ _ ∙ length-put _ _ _ in
         let wide : size t′ ≡ size t = size-put _ _ _ ∙ size-put _ _ _ in
-        true-join (sizes m t′) (settings s′ t′ ++ (taskFits u ∷ transferFits d)) (rw (long, wide) (sizes-passed m s t (access w y u) d h))
-        (true-join (settings s′ t′) (taskFits u ∷ transferFits d)
+        true-join (sizes m t′) (settings s′ t′ ++ (taskFits u ∷ (transferFits d ++ shiftFits φ))) (rw (long, wide) (sizes-passed m s t (access w y u ψ) d h))
+        (true-join (settings s′ t′) (taskFits u ∷ (transferFits d ++ shiftFits φ))
         (rw wide (lt-ltb new (size t) (first .inside)), (le-leb 1 (s .next + 1) (omega arith), (le-leb (s .next + 1) spent left-nonce, (rw wide (le-leb (oneLess (s .total)) (mostFree t) (omega (arith, leb-true (s .total) (mostFree t) (search)))), tt))))
-        (search, (search, (search, tt))))
+        (search, (search, (search, shift .fits))))
 
     -- the others
     abbrev others : List Check
-    others = places m s′ t′ (access w x u) d .tokens ++ (places m s′ t′ (access w x u) d .rest ++ (noncesLeft s′ t′ (grant m t′ (access w x u) d) ∷ []))
+    others = (places m s′ t′ (access w x u φ) d .after ++ places m s′ t′ (access w x u φ) d .tokens) ++ (places m s′ t′ (access w x u φ) d .rest ++ (noncesLeft s′ t′ (grant m t′ (access w x u φ) d) ∷ []))
 
     found : Passed others
     found =
-        let h : Passed (checks m s t (access w y u) d) = through in
+        let h : Passed (checks m s t (access w y u ψ) d) = through in
         let live : Live (lineOf m t n) = rw (← at-y) (search, search) in
         let owned : at t (ownerOf (lineOf m t n)) .kind ≢ 0 = λ z. omega (arith, owner-direct (walk-owns (suc (e .nonce)) m t n full live)) in
         let line : lineOf m t′ (numberOf x) ≡ lineOf m t n = rw at-x (same-line live) in
         let open′ : not (lockedFrom t u (lineOf m t n)) ≡ true = rw (← at-y) (search) in
-        let ends : leb (named y .offset + length d) (e .length) ≡ true = rw (← at-y) (search) in (
-          rw (at-x, size-put, size-put) (lt-ltb new (size t) (first .inside)),
-          (
-            rw (at-x, there),
-            (
-              rw (at-x, there, tag-x) (eq-eqb (child .tag) (child .tag) refl),
-              (
-                rw line (live .0),
-                (
-                  rw line (live .1),
-                  (
-                    rw (line, same-lock (lineOf m t n) u owned live) open′,
-                    (
-                      rw (at-x, there) allowed,
-                      (
-                        rw (at-x, there, ox) ends,
-                        (le-leb (s .next + 1) spent left-nonce, tt),
-                      ),
-                    ),
-                  ),
-                ),
-              ),
-            ),
-          ),
-        )
+        let ends : leb (named y .offset + length d) (e .length) ≡ true = rw (← at-y) (search) in (shift .sound, (rw (at-x, size-put, size-put) (lt-ltb new (size t) (first .inside)), (rw (at-x, there), (rw (at-x, there, tag-x) (eq-eqb (child .tag) (child .tag) refl), (rw line (live .0), (rw line (live .1), (rw (line, same-lock (lineOf m t n) u owned live) open′, (shift .opened, (rw (at-x, there) allowed, (rw (at-x, there, ox) ends, (le-leb (s .next + 1) spent left-nonce, tt)))))))))))
 
-    passes : Passed (checks m s′ t′ (access w x u) d)
+    passes : Passed (checks m s′ t′ (access w x u φ) d)
     passes =
-        let bs : List Bool = sizes m t′ ++ (settings s′ t′ ++ (taskFits u ∷ transferFits d)) in
+        let bs : List Bool = sizes m t′ ++ (settings s′ t′ ++ (taskFits u ∷ (transferFits d ++ shiftFits φ))) in
         passed-join (needAll atRequest bs) others (need-all atRequest bs asked) found
 
-    same-opens : (answer σ′ (accessCall w x u d) ≡ answer σ (accessCall w y u d)) × (step σ′ (accessCall w x u d) .memory ≡ step σ (accessCall w y u d) .memory)
+    same-opens : (answer σ′ (accessCall w x u φ d) ≡ answer σ (accessCall w y u ψ d)) × (step σ′ (accessCall w x u φ d) .memory ≡ step σ (accessCall w y u ψ d) .memory)
     unfolding answer step decide
     same-opens =
         let front : e .base + 0 ≡ e .base = omega arith in
-        let to = passing (checks m s′ t′ (access w x u) d) passes in
-        let from = passing (checks m s t (access w y u) d) through in
+        let to = passing (checks m s′ t′ (access w x u φ) d) passes in
+        let from = passing (checks m s t (access w y u ψ) d) through in
         (rw (to, from, ox, at-x, at-y, there, front), rw (to, from, ox, at-x, at-y, there, front))
 
   passed-on : PassedOn σ k p whole
@@ -318,7 +299,7 @@ module _ (σ : Machine) (fine : Sound σ) (k p c : ℕ) (b : List ℕ) (ok : Acc
   passed-on = record {
     token = token;
     carried = rw (accepted σ whole ok .1);
-    opens = λ w allowed x y u d nx ny ox. rw left (same-opens w allowed x y u d nx ny ox);
+    opens = λ w allowed x y u φ ψ d nx ny ox. rw left (same-opens w allowed x y u φ ψ d nx ny ox);
   }
 
 pub whole-passed : Whole

@@ -11,7 +11,7 @@ use Rattle.layout.specs.declared.entry.Entry.{Entry}
 use Rattle.machine.specs.Line.{linked, parentNumber}
 use Rattle.machine.specs.Operations.{numberOf}
 use Rattle.machine.specs.Parts.{at}
-use Rattle.machine.specs.Requests.{access, Call, Request, reset, revoke, taskOf, Way}
+use Rattle.machine.specs.Requests.{access, Call, Request, reset, revoke, Shift, taskOf, Way}
 use Rattle.machine.specs.Steps.{answer, answers, decision, Machine, run, step}
 use Rattle.machine.specs.Writes.{Name}
 
@@ -99,11 +99,12 @@ pub record Under (t : List ℕ) (e : Entry) (k : Name) : Type 0 where
   pub theirs : In (at t owner) byte
   pub ours : In e byte
 
--- "It opens an access if one through it would be granted, to whatever task": none is, in any encoding, at any offset, with any buffer
+-- "It opens an access if one through it would be granted, to whatever task": none is, in any encoding, at any offset, with any buffer, at any minute and
+-- with any leases
 abbrev pub Closed : Machine → Name → Type 0
 Closed σ k =
-    (w : Way) (token task : ℕ) (buffer : List ℕ) → named token .number ≡ k .number → named token .tag ≡ k .tag
-    → Accepted σ (record { request = access w token task; buffer = buffer }) → ⊥
+    (w : Way) (token task : ℕ) (shift : Shift) (buffer : List ℕ) → named token .number ≡ k .number → named token .tag ≡ k .tag
+    → Accepted σ (record { request = access w token task shift; buffer = buffer }) → ⊥
 
 -- ---- the claim
 

@@ -17,6 +17,7 @@ pub mod Requests
 pub mod Rows
 pub mod Searches
 pub mod Session
+pub mod ShiftWindows
 pub mod Steps
 pub mod Stops
 pub mod Unchanged

@@ -11,17 +11,17 @@ use Rattle.tokens.specs.Token.{named}
 use Rattle.machine.specs.Demand3.{Accepted, Closed, In}
 use Rattle.machine.specs.Given.{nameIn}
 use Rattle.machine.specs.Operations.{namedEntry}
-use Rattle.machine.specs.Requests.{Call, dump, load, reading, writing}
+use Rattle.machine.specs.Requests.{Call, dump, load, reading, Shift, writing}
 use Rattle.machine.specs.Steps.{Answer, answer, Machine, step}
 use Rattle.machine.specs.WholeDerive.{accessCall, lengthOf}
 use Rattle.machine.specs.Writes.{Name}
 
--- a load of a text, and a dump into a buffer, through the token k, by the task u
-abbrev pub loadCall : (token task : ℕ) (text : List ℕ) → Call
-loadCall k u b = record { request = load k u; buffer = b }
+-- a load of a text, and a dump into a buffer, through the token k, by the task u, in a shift
+abbrev pub loadCall : (token task : ℕ) → Shift → (text : List ℕ) → Call
+loadCall k u φ b = record { request = load k u φ; buffer = b }
 
-abbrev pub dumpCall : (token task : ℕ) (buffer : List ℕ) → Call
-dumpCall k u b = record { request = dump k u; buffer = b }
+abbrev pub dumpCall : (token task : ℕ) → Shift → (buffer : List ℕ) → Call
+dumpCall k u φ b = record { request = dump k u φ; buffer = b }
 
 -- the bytes of the segment that a token names
 abbrev pub segmentOf : Machine → (token : ℕ) → List ℕ
@@ -40,7 +40,7 @@ pub record Dumped (σ : Machine) (k : ℕ) (q : Call) : Type 0 where
   pub machine : step σ q ≡ σ
 
 unfoldable pub Dumps : Type 0
-Dumps = (σ : Machine) (k u : ℕ) (b : List ℕ) → Accepted σ (dumpCall k u b) → Dumped σ k (dumpCall k u b)
+Dumps = (σ : Machine) (k u : ℕ) (φ : Shift) (b : List ℕ) → Accepted σ (dumpCall k u φ b) → Dumped σ k (dumpCall k u φ b)
 
 -- "The reader checks the complete text and every record's bounds, then writes the data at its offsets [..]; where records overlap, the later one wins": the
 -- text is read, its pieces lie in the segment, and they are applied to it, one after the other. No other byte moves.
@@ -55,21 +55,21 @@ pub record Loaded (σ : Machine) (k : ℕ) (q : Call) : Type 0 where
   pub buffer : answer σ q .buffer ≡ q .buffer
 
 unfoldable pub Loads : Type 0
-Loads = (σ : Machine) (k u : ℕ) (b : List ℕ) → Accepted σ (loadCall k u b) → Loaded σ k (loadCall k u b)
+Loads = (σ : Machine) (k u : ℕ) (φ : Shift) (b : List ℕ) → Accepted σ (loadCall k u φ b) → Loaded σ k (loadCall k u φ b)
 
 -- "Reading written text into an equal segment restores its bytes": what a dump of the segment of k writes is loaded, on whatever machine, through whatever
 -- token without offset whose segment is as long and that opens a write; and then that segment has the bytes that were dumped.
 unfoldable pub Restores : Type 0
 Restores =
-    (σ : Machine) (k u : ℕ) (b : List ℕ) → AllBytes (σ .memory) → Accepted σ (dumpCall k u b)
-    → (τ : Machine) (j v : ℕ) → named j .offset ≡ 0 → lengthOf τ j ≡ lengthOf σ k → Accepted τ (accessCall writing j v (0 ∷ []))
-    → let q : Call = loadCall j v (textIn (answer σ (dumpCall k u b))) in
+    (σ : Machine) (k u : ℕ) (φ : Shift) (b : List ℕ) → AllBytes (σ .memory) → Accepted σ (dumpCall k u φ b)
+    → (τ : Machine) (j v : ℕ) (ψ : Shift) → named j .offset ≡ 0 → lengthOf τ j ≡ lengthOf σ k → Accepted τ (accessCall writing j v ψ (0 ∷ []))
+    → let q : Call = loadCall j v ψ (textIn (answer σ (dumpCall k u φ b))) in
     Accepted τ q × (segmentOf (step τ q) j ≡ segmentOf σ k)
 
 -- "Loads and dumps [..] use the access checks without the transfer limit": a load is granted just where the token, without offset, opens a write of one byte, the
 -- text has "at most 65,536 bytes" and is read, and its data lie in the segment;
-pub record MayLoad (σ : Machine) (k u : ℕ) (b : List ℕ) : Type 0 where
-  pub access : Accepted σ (accessCall writing k u (0 ∷ []))
+pub record MayLoad (σ : Machine) (k u : ℕ) (φ : Shift) (b : List ℕ) : Type 0 where
+  pub access : Accepted σ (accessCall writing k u φ (0 ∷ []))
   pub offset : named k .offset ≡ 0
   pub short : length b ≤ 65536
   pub pieces : List Piece
@@ -77,20 +77,21 @@ pub record MayLoad (σ : Machine) (k u : ℕ) (b : List ℕ) : Type 0 where
   pub inside : farthest pieces ≤ lengthOf σ k
 
 -- and a dump just where it opens a read of one byte, and the text has at most 65,536 bytes and its room in the buffer.
-pub record MayDump (σ : Machine) (k u : ℕ) (b : List ℕ) : Type 0 where
-  pub access : Accepted σ (accessCall reading k u (0 ∷ []))
+pub record MayDump (σ : Machine) (k u : ℕ) (φ : Shift) (b : List ℕ) : Type 0 where
+  pub access : Accepted σ (accessCall reading k u φ (0 ∷ []))
   pub offset : named k .offset ≡ 0
   pub short : writtenLength (lengthOf σ k) ≤ 65536
   pub room : writtenLength (lengthOf σ k) ≤ length b
 
 pub record AsAccesses : Type 0 where
-  pub loads : (σ : Machine) (k u : ℕ) (b : List ℕ) → Accepted σ (loadCall k u b) → MayLoad σ k u b
-  pub load : (σ : Machine) (k u : ℕ) (b : List ℕ) → MayLoad σ k u b → Accepted σ (loadCall k u b)
-  pub dumps : (σ : Machine) (k u : ℕ) (b : List ℕ) → Accepted σ (dumpCall k u b) → MayDump σ k u b
-  pub dump : (σ : Machine) (k u : ℕ) (b : List ℕ) → MayDump σ k u b → Accepted σ (dumpCall k u b)
+  pub loads : (σ : Machine) (k u : ℕ) (φ : Shift) (b : List ℕ) → Accepted σ (loadCall k u φ b) → MayLoad σ k u φ b
+  pub load : (σ : Machine) (k u : ℕ) (φ : Shift) (b : List ℕ) → MayLoad σ k u φ b → Accepted σ (loadCall k u φ b)
+  pub dumps : (σ : Machine) (k u : ℕ) (φ : Shift) (b : List ℕ) → Accepted σ (dumpCall k u φ b) → MayDump σ k u φ b
+  pub dump : (σ : Machine) (k u : ℕ) (φ : Shift) (b : List ℕ) → MayDump σ k u φ b → Accepted σ (dumpCall k u φ b)
 
--- "Loads and dumps are requests like others for the lock's secrecy": so a token that opens no access, as demand 3 has it after a revoke, opens no load and no dump, in any encoding, with any buffer.
+-- "Loads and dumps are requests like others for the lock's secrecy": so a token that opens no access, as demand 3 has it after a revoke, opens no load and no dump, in any encoding, with any
+-- buffer, at any minute and with any leases.
 unfoldable pub Shut : Type 0
 Shut =
-    (σ : Machine) (k : Name) → Closed σ k → (token task : ℕ) (b : List ℕ) → nameIn token ≡ k
-    → (Accepted σ (loadCall token task b) → ⊥) × (Accepted σ (dumpCall token task b) → ⊥)
+    (σ : Machine) (k : Name) → Closed σ k → (token task : ℕ) (φ : Shift) (b : List ℕ) → nameIn token ≡ k
+    → (Accepted σ (loadCall token task φ b) → ⊥) × (Accepted σ (dumpCall token task φ b) → ⊥)

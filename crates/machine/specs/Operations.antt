@@ -209,7 +209,7 @@ grantDump e = effecting (writtenLength (e .length)) (text (e .base) (e .length))
 -- sum, over the whole segment with X alone."
 abbrev pub grant : ℕ → List ℕ → Request → List ℕ → Grant
 grant m t (reset k0 k1 ν) b = grantReset m k0 k1 ν
-grant m t (access w k u) b = grantAccess t w k b
+grant m t (access w k u φ) b = grantAccess t w k b
 grant m t (create k u l x p c) b = grantCreate t (numberOf k) l x p c
 grant m t (merge j k u c) b = grantMerge t (numberOf j) (numberOf k) c
 grant m t (derive k o l p c) b = grantDerive t (numberOf k) o l p c
@@ -219,5 +219,5 @@ grant m t (release k) b = grantRelease m t (numberOf k)
 grant m t (lock k u) b = grantLock t (ownerOf (lineOf m t (numberOf k))) true u
 grant m t (unlock k u) b = grantLock t (ownerOf (lineOf m t (numberOf k))) false 0
 grant m t (revoke k c) b = grantRevoke t (numberOf k) c
-grant m t (load k u) b = grantLoad (namedEntry t k) b
-grant m t (dump k u) b = grantDump (namedEntry t k)
+grant m t (load k u φ) b = grantLoad (namedEntry t k) b
+grant m t (dump k u φ) b = grantDump (namedEntry t k)

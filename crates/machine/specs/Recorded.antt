@@ -8,13 +8,16 @@ use Rattle.bits.specs.Bytes.{bytes}
 use Rattle.layout.specs.Examples as printed
 use Rattle.machine.specs.Operations.{Decision, Effect, nothing}
 use Rattle.machine.specs.Parts.{State}
-use Rattle.machine.specs.Requests.{Call, Request}
+use Rattle.machine.specs.Requests.{Call, Request, Shift}
 use Rattle.machine.specs.Session.{decisions, leaves}
 use Rattle.machine.specs.Steps.{Answer, answers, decide, Machine, run}
 
 -- how calls and states are written out
 abbrev pub over : (buffer : List ℕ) → Request → Call
 over b q = record { request = q; buffer = b }
+
+abbrev pub during : (minute : ℕ) → (leases : List ℕ) → Shift
+during i ls = record { minute = i; leases = ls }
 
 abbrev pub zeros : ℕ → List ℕ
 zeros n = replicate n 0

@@ -7,8 +7,8 @@ use mathlib.Core.List.{List, [], _∷_}
 use Prim.Native.Nat.{ℕ}
 use Rattle.layout.specs.Examples.{Row}
 use Rattle.machine.specs.Operations.{fetch, nothing, store, text}
-use Rattle.machine.specs.Recorded.{dumps, grants, known, limit, moves, over, refuses, Session, zeros}
-use Rattle.machine.specs.Requests.{access, clone, create, derive, dump, executeOnly, fetching, load, lock, merge, reading, release, reset, revoke, unlock, writing}
+use Rattle.machine.specs.Recorded.{dumps, during, grants, known, limit, moves, over, refuses, Session, zeros}
+use Rattle.machine.specs.Requests.{access, clone, create, derive, dump, executeOnly, fetching, load, lock, merge, noShift, reading, release, reset, revoke, unlock, writing}
 use Rattle.machine.specs.Session.{plain}
 
 -- a text of an end record alone
@@ -53,17 +53,17 @@ fromReset = record {
       ∷ refuses (plain (derive 0xafb3c00000010000 0 1 0 0)) 10 0 4 6 0
       ∷ refuses (plain (create 0xafb3c00000010000 0 8 0 0 0)) 9 0 4 6 0
       -- accesses at a segment's edges
-      ∷ grants (over (zeros 13) (access reading 0x898ac00000000003 0)) [] 0 4 6 0 (fetch 11 13)
-      ∷ grants (over (200 ∷ []) (access writing 0xf5c0000002000004 0)) [] 0 4 6 0 (store 6 (200 ∷ []))
-      ∷ refuses (over (200 ∷ 201 ∷ []) (access writing 0xf5c0000002000004 0)) 8 0 4 6 0
-      ∷ grants (over (zeros 1) (access fetching 0x325980040000000f 0)) [] 0 4 6 0 (fetch 23 1)
+      ∷ grants (over (zeros 13) (access reading 0x898ac00000000003 0 noShift)) [] 0 4 6 0 (fetch 11 13)
+      ∷ grants (over (200 ∷ []) (access writing 0xf5c0000002000004 0 noShift)) [] 0 4 6 0 (store 6 (200 ∷ []))
+      ∷ refuses (over (200 ∷ 201 ∷ []) (access writing 0xf5c0000002000004 0 noShift)) 8 0 4 6 0
+      ∷ grants (over (zeros 1) (access fetching 0x325980040000000f 0 noShift)) [] 0 4 6 0 (fetch 23 1)
       ∷ grants (plain (clone 0xf5c0000002000000)) [] 0 4 6 0 nothing
       -- a lock through the grandchild, again, by another; drops under it
       ∷ grants (plain (lock 0x5cc2000000000003 7)) [] 0 4 6 0 nothing
       ∷ grants (plain (lock 0xafb3c00000010000 7)) [] 0 4 6 0 nothing
       ∷ refuses (plain (lock 0xf5c0000002000000 8)) 5 0 4 6 0
-      ∷ refuses (over (zeros 1) (access reading 0x5cc2000000000003 0)) 5 0 4 6 0
-      ∷ grants (over (zeros 2) (access reading 0x5cc2000000000003 7)) [] 0 4 6 0 (fetch 3 2)
+      ∷ refuses (over (zeros 1) (access reading 0x5cc2000000000003 0 noShift)) 5 0 4 6 0
+      ∷ grants (over (zeros 2) (access reading 0x5cc2000000000003 7 noShift)) [] 0 4 6 0 (fetch 3 2)
       ∷ grants (plain (release 0x5cc2000000000003)) [] 0 4 6 0 nothing
       ∷ grants (plain (release 0xf5c0000002000000)) [] 0 4 6 0 nothing
       ∷ refuses (plain (unlock 0x5cc2000000000003 8)) 5 0 4 6 0
@@ -76,11 +76,11 @@ fromReset = record {
       ∷ grants (plain (release 0x3259800400000000)) [] 1 4 6 3 nothing
       ∷ refuses (plain (release 0x898ac00000000000)) 9 0 4 6 3
       ∷ grants (plain (merge 0xafb3c00000010000 0x898ac00000000000 0 3)) (0xc14a800001000000 ∷ []) 0 4 7 3 nothing
-      ∷ refuses (over (zeros 1) (access reading 0xafb3c00000010000 0)) 2 0 4 7 3
+      ∷ refuses (over (zeros 1) (access reading 0xafb3c00000010000 0 noShift)) 2 0 4 7 3
       -- a revoke
       ∷ grants (plain (revoke 0xc14a800001000000 1)) (0x7bcf000000000001 ∷ []) 0 4 8 3 (store 0 (zeros 24))
-      ∷ grants (over (zeros 24) (access reading 0x7bcf000000000001 0)) [] 0 4 8 3 (fetch 0 24)
-      ∷ refuses (over (zeros 1) (access reading 0 0)) 2 0 4 8 3
+      ∷ grants (over (zeros 24) (access reading 0x7bcf000000000001 0 noShift)) [] 0 4 8 3 (fetch 0 24)
+      ∷ refuses (over (zeros 1) (access reading 0 0 noShift)) 2 0 4 8 3
       ∷ [];
   left =
       0
@@ -91,6 +91,40 @@ fromReset = record {
       ∷ [];
 }
 
+-- leases (02, paper 4): windows of number 0 with tag 160, by day and over the week's end; others' leases; and leases that are unsound
+abbrev day : List ℕ
+day = 0 ∷ 0 ∷ 160 ∷ 0 ∷ 224 ∷ 1 ∷ 192 ∷ 3 ∷ []
+
+abbrev night : List ℕ
+night = 0 ∷ 0 ∷ 160 ∷ 0 ∷ 192 ∷ 3 ∷ 224 ∷ 1 ∷ []
+
+abbrev twice : List ℕ
+twice = 0 ∷ 0 ∷ 160 ∷ 0 ∷ 224 ∷ 1 ∷ 192 ∷ 3 ∷ 0 ∷ 0 ∷ 160 ∷ 0 ∷ 232 ∷ 3 ∷ 76 ∷ 4 ∷ []
+
+abbrev others : List ℕ
+others = 0 ∷ 0 ∷ 161 ∷ 0 ∷ 224 ∷ 1 ∷ 192 ∷ 3 ∷ 1 ∷ 0 ∷ 160 ∷ 0 ∷ 224 ∷ 1 ∷ 192 ∷ 3 ∷ []
+
+abbrev locked : List ℕ
+locked = 1 ∷ 0 ∷ 161 ∷ 0 ∷ 224 ∷ 1 ∷ 192 ∷ 3 ∷ []
+
+abbrev unread : List ℕ
+unread = 3 ∷ 0 ∷ 163 ∷ 0 ∷ 224 ∷ 1 ∷ 192 ∷ 3 ∷ []
+
+abbrev broken : List ℕ
+broken = 5 ∷ 0 ∷ 165 ∷ 0 ∷ 224 ∷ 1 ∷ 192 ∷ 3 ∷ 7 ∷ 0 ∷ 167 ∷ 0 ∷ 224 ∷ 1 ∷ 192 ∷ 3 ∷ []
+
+abbrev equal : List ℕ
+equal = 9 ∷ 0 ∷ 9 ∷ 0 ∷ 7 ∷ 0 ∷ 7 ∷ 0 ∷ []
+
+abbrev opensLate : List ℕ
+opensLate = 0 ∷ 0 ∷ 160 ∷ 0 ∷ 224 ∷ 1 ∷ 192 ∷ 3 ∷ 9 ∷ 0 ∷ 9 ∷ 0 ∷ 96 ∷ 39 ∷ 0 ∷ 0 ∷ []
+
+abbrev closesLate : List ℕ
+closesLate = 9 ∷ 0 ∷ 9 ∷ 0 ∷ 0 ∷ 0 ∷ 96 ∷ 39 ∷ 0 ∷ 0 ∷ 160 ∷ 0 ∷ 224 ∷ 1 ∷ 192 ∷ 3 ∷ []
+
+abbrev lastMinute : List ℕ
+lastMinute = 0 ∷ 0 ∷ 160 ∷ 0 ∷ 95 ∷ 39 ∷ 0 ∷ 0 ∷ []
+
 -- a table that was handed over: each refusal of each operation but 10 and 11, and the edges of what is granted
 abbrev handedOver : Session
 handedOver = record {
@@ -99,43 +133,47 @@ handedOver = record {
   table = handed;
   rows =
       -- access
-      refuses (over (zeros 1) (access reading 0x4028000000000000 36028797018963968)) 1 0 14 100 15
-      ∷ refuses (over [] (access reading 0x4028000000000000 0)) 1 0 14 100 15
-      ∷ refuses (over (zeros 1) (access reading 0x1000000000 0)) 2 0 14 100 15
-      ∷ refuses (over (zeros 1) (access reading 0xf00000000 0)) 2 0 14 100 15
-      ∷ refuses (over (zeros 1) (access reading 0x8028400000000000 0)) 2 0 14 100 15
-      ∷ refuses (over (zeros 1) (access reading 0x4029400000000005 0)) 3 1 14 100 15
-      ∷ refuses (over (200 ∷ []) (access writing 0x29800600000000 0)) 3 2 14 100 15
-      ∷ refuses (over (zeros 1) (access reading 0x402ac0000000000b 0)) 3 1 14 100 15
-      ∷ refuses (over (zeros 1) (access reading 0x4029c00000000007 0)) 4 1 14 100 15
-      ∷ refuses (over (200 ∷ []) (access writing 0x402a000000000008 0)) 4 2 14 100 15
-      ∷ refuses (over (zeros 1) (access fetching 0x402a80000000000a 0)) 4 1 14 100 15
-      ∷ refuses (over (zeros 1) (access reading 0x4028400000000001 8)) 5 0 14 100 15
-      ∷ refuses (over (zeros 1) (access reading 0x4028800000000002 0)) 5 0 14 100 15
-      ∷ refuses (over (200 ∷ 201 ∷ 202 ∷ 203 ∷ 204 ∷ 205 ∷ 206 ∷ 207 ∷ 208 ∷ []) (access writing 0x4028800000000002 7)) 7 0 14 100 15
-      ∷ refuses (over (zeros 1) (access reading 0x4028c00000000003 0)) 7 0 14 100 15
-      ∷ refuses (over (zeros 1) (access fetching 0x4029000000000004 0)) 7 0 14 100 15
-      ∷ refuses (over (zeros 1) (access reading 0x402a400000000009 0)) 7 0 14 100 15
-      ∷ refuses (over (zeros 1) (access reading 0x28000000000010 0)) 8 0 14 100 15
-      ∷ refuses (over (zeros 2) (access reading 0x2800000000000f 0)) 8 0 14 100 15
-      ∷ grants (over (zeros 1) (access reading 0x2800000000000f 36028797018963967)) [] 0 14 100 15 (fetch 15 1)
+      refuses (over (zeros 1) (access reading 0x4028000000000000 36028797018963968 noShift)) 1 0 14 100 15
+      ∷ refuses (over [] (access reading 0x4028000000000000 0 noShift)) 1 0 14 100 15
+      ∷ refuses (over (zeros 1) (access reading 0x1000000000 0 noShift)) 2 0 14 100 15
+      ∷ refuses (over (zeros 1) (access reading 0xf00000000 0 noShift)) 2 0 14 100 15
+      ∷ refuses (over (zeros 1) (access reading 0x8028400000000000 0 noShift)) 2 0 14 100 15
+      ∷ refuses (over (zeros 1) (access reading 0x4029400000000005 0 noShift)) 3 1 14 100 15
+      ∷ refuses (over (200 ∷ []) (access writing 0x29800600000000 0 noShift)) 3 2 14 100 15
+      ∷ refuses (over (zeros 1) (access reading 0x402ac0000000000b 0 noShift)) 3 1 14 100 15
+      ∷ refuses (over (zeros 1) (access reading 0x4029c00000000007 0 noShift)) 4 1 14 100 15
+      ∷ refuses (over (200 ∷ []) (access writing 0x402a000000000008 0 noShift)) 4 2 14 100 15
+      ∷ refuses (over (zeros 1) (access fetching 0x402a80000000000a 0 noShift)) 4 1 14 100 15
+      ∷ refuses (over (zeros 1) (access reading 0x4028400000000001 8 noShift)) 5 0 14 100 15
+      ∷ refuses (over (zeros 1) (access reading 0x4028800000000002 0 noShift)) 5 0 14 100 15
+      ∷ refuses (over (200 ∷ 201 ∷ 202 ∷ 203 ∷ 204 ∷ 205 ∷ 206 ∷ 207 ∷ 208 ∷ []) (access writing 0x4028800000000002 7 noShift)) 7 0 14 100 15
+      ∷ refuses (over (zeros 1) (access reading 0x4028c00000000003 0 noShift)) 7 0 14 100 15
+      ∷ refuses (over (zeros 1) (access fetching 0x4029000000000004 0 noShift)) 7 0 14 100 15
+      ∷ refuses (over (zeros 1) (access reading 0x402a400000000009 0 noShift)) 7 0 14 100 15
+      ∷ refuses (over (zeros 1) (access reading 0x28000000000010 0 noShift)) 8 0 14 100 15
+      ∷ refuses (over (zeros 2) (access reading 0x2800000000000f 0 noShift)) 8 0 14 100 15
+      ∷ grants (over (zeros 1) (access reading 0x2800000000000f 36028797018963967 noShift)) [] 0 14 100 15 (fetch 15 1)
+      -- in a shift: before a window and at its opening, and an unsound lease
+      ∷ refuses (over (zeros 1) (access reading 0x4028000000000000 0 (during 479 day))) 15 0 14 100 15
+      ∷ grants (over (zeros 1) (access reading 0x4028000000000000 0 (during 480 day))) [] 0 14 100 15 (fetch 0 1)
+      ∷ refuses (over (zeros 1) (access reading 0x4028000000000000 0 (during 480 equal))) 16 0 14 100 15
       -- load and dump
-      ∷ refuses (over ended (load 0xf00000000 0)) 2 0 14 100 15
-      ∷ refuses (over ended (load 0x4029400000000005 0)) 3 1 14 100 15
-      ∷ refuses (over ended (load 0x29800600000000 0)) 3 2 14 100 15
-      ∷ refuses (over ended (load 0x4029c00000000007 0)) 4 1 14 100 15
-      ∷ refuses (over ended (load 0x402a000000000008 0)) 4 2 14 100 15
-      ∷ refuses (over ended (load 0x4028800000000002 0)) 5 0 14 100 15
-      ∷ refuses (over ended (load 0x402a400000000009 0)) 7 0 14 100 15
-      ∷ refuses (over (zeros 56) (dump 0xf00000000 0)) 2 0 14 100 15
-      ∷ refuses (over (zeros 56) (dump 0x4029400000000005 0)) 3 1 14 100 15
-      ∷ refuses (over (zeros 56) (dump 0x29800600000000 0)) 3 2 14 100 15
-      ∷ refuses (over (zeros 56) (dump 0x4029c00000000007 0)) 4 1 14 100 15
-      ∷ refuses (over (zeros 56) (dump 0x402a000000000008 0)) 4 2 14 100 15
-      ∷ refuses (over (zeros 56) (dump 0x4028800000000002 0)) 5 0 14 100 15
-      ∷ refuses (over (zeros 56) (dump 0x4028c00000000003 0)) 7 0 14 100 15
-      ∷ dumps (over (zeros 72) (dump 0x28000000000000 36028797018963967)) 72 14 100 15 (text 0 16)
-      ∷ grants (over ended (load 0x28000000000000 36028797018963967)) [] 0 14 100 15 nothing
+      ∷ refuses (over ended (load 0xf00000000 0 noShift)) 2 0 14 100 15
+      ∷ refuses (over ended (load 0x4029400000000005 0 noShift)) 3 1 14 100 15
+      ∷ refuses (over ended (load 0x29800600000000 0 noShift)) 3 2 14 100 15
+      ∷ refuses (over ended (load 0x4029c00000000007 0 noShift)) 4 1 14 100 15
+      ∷ refuses (over ended (load 0x402a000000000008 0 noShift)) 4 2 14 100 15
+      ∷ refuses (over ended (load 0x4028800000000002 0 noShift)) 5 0 14 100 15
+      ∷ refuses (over ended (load 0x402a400000000009 0 noShift)) 7 0 14 100 15
+      ∷ refuses (over (zeros 56) (dump 0xf00000000 0 noShift)) 2 0 14 100 15
+      ∷ refuses (over (zeros 56) (dump 0x4029400000000005 0 noShift)) 3 1 14 100 15
+      ∷ refuses (over (zeros 56) (dump 0x29800600000000 0 noShift)) 3 2 14 100 15
+      ∷ refuses (over (zeros 56) (dump 0x4029c00000000007 0 noShift)) 4 1 14 100 15
+      ∷ refuses (over (zeros 56) (dump 0x402a000000000008 0 noShift)) 4 2 14 100 15
+      ∷ refuses (over (zeros 56) (dump 0x4028800000000002 0 noShift)) 5 0 14 100 15
+      ∷ refuses (over (zeros 56) (dump 0x4028c00000000003 0 noShift)) 7 0 14 100 15
+      ∷ dumps (over (zeros 72) (dump 0x28000000000000 36028797018963967 noShift)) 72 14 100 15 (text 0 16)
+      ∷ grants (over ended (load 0x28000000000000 36028797018963967 noShift)) [] 0 14 100 15 nothing
       -- create
       ∷ refuses (plain (create 0x4028000000000000 36028797018963968 1 0 0 0)) 1 0 14 100 15
       ∷ refuses (plain (create 0x4028000000000000 0 1 0 0 4)) 1 0 14 100 15
@@ -258,7 +296,7 @@ handedOn = record {
       ∷ grants (plain (executeOnly 0x402a400000000009 1)) (0x490300000000000f ∷ []) 0 15 101 14 nothing
       ∷ grants (plain (create 0x4028c00000000003 0 3 18446744073709551615 1 1)) (0x7300400000000002 ∷ 0x4839400000000003 ∷ []) 0 2 103 13 nothing
       ∷ grants (plain (merge 0x4839400000000003 0x4029000000000004 0 2)) (0xb187000000030000 ∷ []) 0 2 104 14 nothing
-      ∷ grants (over (200 ∷ []) (access writing 0xb18700000003000c 0)) [] 0 2 104 14 (store 47 (200 ∷ []))
+      ∷ grants (over (200 ∷ []) (access writing 0xb18700000003000c 0 noShift)) [] 0 2 104 14 (store 47 (200 ∷ []))
       ∷ refuses (plain (lock 0xb187000000030000 1)) 7 0 2 104 14
       ∷ grants (plain (revoke 0x4028400000000001 0)) (0x3269000100000000 ∷ []) 0 2 105 14 (store 16 (zeros 16))
       ∷ [];
@@ -326,7 +364,7 @@ lastNonces = record {
       ∷ refuses (plain (revoke 0x28b4400200000000 0)) 11 0 2 4294967296 1
       ∷ grants (plain (clone 0x28b4400200000000)) [] 0 2 4294967296 1 nothing
       ∷ grants (plain (lock 0x28b4400200000000 1)) [] 0 2 4294967296 1 nothing
-      ∷ grants (over (200 ∷ 201 ∷ 202 ∷ 203 ∷ 204 ∷ 205 ∷ 206 ∷ 207 ∷ []) (access writing 0x28b4400200000000 1)) [] 0 2 4294967296 1 (store 8 (200 ∷ 201 ∷ 202 ∷ 203 ∷ 204 ∷ 205 ∷ 206 ∷ 207 ∷ []))
+      ∷ grants (over (200 ∷ 201 ∷ 202 ∷ 203 ∷ 204 ∷ 205 ∷ 206 ∷ 207 ∷ []) (access writing 0x28b4400200000000 1 noShift)) [] 0 2 4294967296 1 (store 8 (200 ∷ 201 ∷ 202 ∷ 203 ∷ 204 ∷ 205 ∷ 206 ∷ 207 ∷ []))
       ∷ grants (plain (unlock 0x28b4400200000000 1)) [] 0 2 4294967296 1 nothing
       ∷ grants (plain (release 0x28b4400200000000)) [] 1 2 4294967296 1 nothing
       ∷ grants (plain (reset 1 1 4294967295)) [] 0 0 4294967295 3 nothing
@@ -390,36 +428,36 @@ imaged = record {
   rows =
       grants (plain (reset 0 0 1)) [] 0 0 1 1 nothing
       -- three bytes at 2; an end record alone
-      ∷ grants (over (58 ∷ 48 ∷ 51 ∷ 48 ∷ 48 ∷ 48 ∷ 50 ∷ 48 ∷ 48 ∷ 67 ∷ 57 ∷ 67 ∷ 65 ∷ 67 ∷ 66 ∷ 57 ∷ 68 ∷ 10 ∷ 58 ∷ 48 ∷ 48 ∷ 48 ∷ 48 ∷ 48 ∷ 48 ∷ 48 ∷ 49 ∷ 70 ∷ 70 ∷ 10 ∷ []) (load 0 0)) [] 0 0 1 1 (store 2 (201 ∷ 202 ∷ 203 ∷ []))
-      ∷ grants (over (58 ∷ 48 ∷ 48 ∷ 48 ∷ 48 ∷ 48 ∷ 48 ∷ 48 ∷ 49 ∷ 70 ∷ 70 ∷ 10 ∷ []) (load 0 0)) [] 0 0 1 1 nothing
+      ∷ grants (over (58 ∷ 48 ∷ 51 ∷ 48 ∷ 48 ∷ 48 ∷ 50 ∷ 48 ∷ 48 ∷ 67 ∷ 57 ∷ 67 ∷ 65 ∷ 67 ∷ 66 ∷ 57 ∷ 68 ∷ 10 ∷ 58 ∷ 48 ∷ 48 ∷ 48 ∷ 48 ∷ 48 ∷ 48 ∷ 48 ∷ 49 ∷ 70 ∷ 70 ∷ 10 ∷ []) (load 0 0 noShift)) [] 0 0 1 1 (store 2 (201 ∷ 202 ∷ 203 ∷ []))
+      ∷ grants (over (58 ∷ 48 ∷ 48 ∷ 48 ∷ 48 ∷ 48 ∷ 48 ∷ 48 ∷ 49 ∷ 70 ∷ 70 ∷ 10 ∷ []) (load 0 0 noShift)) [] 0 0 1 1 nothing
       -- no text; no end record; two; CR LF
-      ∷ refuses (over [] (load 0 0)) 12 0 0 1 1
-      ∷ refuses (over (58 ∷ 48 ∷ 49 ∷ 48 ∷ 48 ∷ 48 ∷ 50 ∷ 48 ∷ 48 ∷ 67 ∷ 57 ∷ 51 ∷ 52 ∷ 10 ∷ []) (load 0 0)) 12 0 0 1 1
-      ∷ refuses (over (58 ∷ 48 ∷ 48 ∷ 48 ∷ 48 ∷ 48 ∷ 48 ∷ 48 ∷ 49 ∷ 70 ∷ 70 ∷ 10 ∷ 58 ∷ 48 ∷ 48 ∷ 48 ∷ 48 ∷ 48 ∷ 48 ∷ 48 ∷ 49 ∷ 70 ∷ 70 ∷ 10 ∷ []) (load 0 0)) 12 0 0 1 1
-      ∷ refuses (over (58 ∷ 48 ∷ 48 ∷ 48 ∷ 48 ∷ 48 ∷ 48 ∷ 48 ∷ 49 ∷ 70 ∷ 70 ∷ 13 ∷ 10 ∷ []) (load 0 0)) 12 0 0 1 1
+      ∷ refuses (over [] (load 0 0 noShift)) 12 0 0 1 1
+      ∷ refuses (over (58 ∷ 48 ∷ 49 ∷ 48 ∷ 48 ∷ 48 ∷ 50 ∷ 48 ∷ 48 ∷ 67 ∷ 57 ∷ 51 ∷ 52 ∷ 10 ∷ []) (load 0 0 noShift)) 12 0 0 1 1
+      ∷ refuses (over (58 ∷ 48 ∷ 48 ∷ 48 ∷ 48 ∷ 48 ∷ 48 ∷ 48 ∷ 49 ∷ 70 ∷ 70 ∷ 10 ∷ 58 ∷ 48 ∷ 48 ∷ 48 ∷ 48 ∷ 48 ∷ 48 ∷ 48 ∷ 49 ∷ 70 ∷ 70 ∷ 10 ∷ []) (load 0 0 noShift)) 12 0 0 1 1
+      ∷ refuses (over (58 ∷ 48 ∷ 48 ∷ 48 ∷ 48 ∷ 48 ∷ 48 ∷ 48 ∷ 49 ∷ 70 ∷ 70 ∷ 13 ∷ 10 ∷ []) (load 0 0 noShift)) 12 0 0 1 1
       -- a wrong checksum, before and after a malformed record
-      ∷ refuses (over (58 ∷ 48 ∷ 49 ∷ 48 ∷ 48 ∷ 48 ∷ 50 ∷ 48 ∷ 48 ∷ 67 ∷ 57 ∷ 51 ∷ 53 ∷ 10 ∷ 58 ∷ 48 ∷ 48 ∷ 48 ∷ 48 ∷ 48 ∷ 48 ∷ 48 ∷ 49 ∷ 70 ∷ 70 ∷ 10 ∷ []) (load 0 0)) 13 0 0 1 1
-      ∷ refuses (over (58 ∷ 48 ∷ 49 ∷ 48 ∷ 48 ∷ 48 ∷ 50 ∷ 48 ∷ 48 ∷ 67 ∷ 57 ∷ 51 ∷ 53 ∷ 10 ∷ 10 ∷ []) (load 0 0)) 13 0 0 1 1
-      ∷ refuses (over (10 ∷ 58 ∷ 48 ∷ 49 ∷ 48 ∷ 48 ∷ 48 ∷ 50 ∷ 48 ∷ 48 ∷ 67 ∷ 57 ∷ 51 ∷ 53 ∷ 10 ∷ []) (load 0 0)) 12 0 0 1 1
+      ∷ refuses (over (58 ∷ 48 ∷ 49 ∷ 48 ∷ 48 ∷ 48 ∷ 50 ∷ 48 ∷ 48 ∷ 67 ∷ 57 ∷ 51 ∷ 53 ∷ 10 ∷ 58 ∷ 48 ∷ 48 ∷ 48 ∷ 48 ∷ 48 ∷ 48 ∷ 48 ∷ 49 ∷ 70 ∷ 70 ∷ 10 ∷ []) (load 0 0 noShift)) 13 0 0 1 1
+      ∷ refuses (over (58 ∷ 48 ∷ 49 ∷ 48 ∷ 48 ∷ 48 ∷ 50 ∷ 48 ∷ 48 ∷ 67 ∷ 57 ∷ 51 ∷ 53 ∷ 10 ∷ 10 ∷ []) (load 0 0 noShift)) 13 0 0 1 1
+      ∷ refuses (over (10 ∷ 58 ∷ 48 ∷ 49 ∷ 48 ∷ 48 ∷ 48 ∷ 50 ∷ 48 ∷ 48 ∷ 67 ∷ 57 ∷ 51 ∷ 53 ∷ 10 ∷ []) (load 0 0 noShift)) 12 0 0 1 1
       -- past the segment's end, by one byte and by a page; no byte there
-      ∷ refuses (over (58 ∷ 48 ∷ 51 ∷ 48 ∷ 48 ∷ 49 ∷ 50 ∷ 48 ∷ 48 ∷ 48 ∷ 49 ∷ 48 ∷ 50 ∷ 48 ∷ 51 ∷ 69 ∷ 53 ∷ 10 ∷ 58 ∷ 48 ∷ 48 ∷ 48 ∷ 48 ∷ 48 ∷ 48 ∷ 48 ∷ 49 ∷ 70 ∷ 70 ∷ 10 ∷ []) (load 0 0)) 8 0 0 1 1
-      ∷ refuses (over (58 ∷ 48 ∷ 50 ∷ 48 ∷ 48 ∷ 48 ∷ 48 ∷ 48 ∷ 52 ∷ 48 ∷ 48 ∷ 48 ∷ 49 ∷ 70 ∷ 57 ∷ 10 ∷ 58 ∷ 48 ∷ 49 ∷ 48 ∷ 48 ∷ 48 ∷ 48 ∷ 48 ∷ 48 ∷ 48 ∷ 49 ∷ 70 ∷ 69 ∷ 10 ∷ 58 ∷ 48 ∷ 48 ∷ 48 ∷ 48 ∷ 48 ∷ 48 ∷ 48 ∷ 49 ∷ 70 ∷ 70 ∷ 10 ∷ []) (load 0 0)) 8 0 0 1 1
-      ∷ grants (over (58 ∷ 48 ∷ 50 ∷ 48 ∷ 48 ∷ 48 ∷ 48 ∷ 48 ∷ 52 ∷ 48 ∷ 48 ∷ 48 ∷ 49 ∷ 70 ∷ 57 ∷ 10 ∷ 58 ∷ 48 ∷ 48 ∷ 48 ∷ 48 ∷ 48 ∷ 57 ∷ 48 ∷ 48 ∷ 70 ∷ 55 ∷ 10 ∷ 58 ∷ 48 ∷ 48 ∷ 48 ∷ 48 ∷ 48 ∷ 48 ∷ 48 ∷ 49 ∷ 70 ∷ 70 ∷ 10 ∷ []) (load 0 0)) [] 0 0 1 1 nothing
+      ∷ refuses (over (58 ∷ 48 ∷ 51 ∷ 48 ∷ 48 ∷ 49 ∷ 50 ∷ 48 ∷ 48 ∷ 48 ∷ 49 ∷ 48 ∷ 50 ∷ 48 ∷ 51 ∷ 69 ∷ 53 ∷ 10 ∷ 58 ∷ 48 ∷ 48 ∷ 48 ∷ 48 ∷ 48 ∷ 48 ∷ 48 ∷ 49 ∷ 70 ∷ 70 ∷ 10 ∷ []) (load 0 0 noShift)) 8 0 0 1 1
+      ∷ refuses (over (58 ∷ 48 ∷ 50 ∷ 48 ∷ 48 ∷ 48 ∷ 48 ∷ 48 ∷ 52 ∷ 48 ∷ 48 ∷ 48 ∷ 49 ∷ 70 ∷ 57 ∷ 10 ∷ 58 ∷ 48 ∷ 49 ∷ 48 ∷ 48 ∷ 48 ∷ 48 ∷ 48 ∷ 48 ∷ 48 ∷ 49 ∷ 70 ∷ 69 ∷ 10 ∷ 58 ∷ 48 ∷ 48 ∷ 48 ∷ 48 ∷ 48 ∷ 48 ∷ 48 ∷ 49 ∷ 70 ∷ 70 ∷ 10 ∷ []) (load 0 0 noShift)) 8 0 0 1 1
+      ∷ grants (over (58 ∷ 48 ∷ 50 ∷ 48 ∷ 48 ∷ 48 ∷ 48 ∷ 48 ∷ 52 ∷ 48 ∷ 48 ∷ 48 ∷ 49 ∷ 70 ∷ 57 ∷ 10 ∷ 58 ∷ 48 ∷ 48 ∷ 48 ∷ 48 ∷ 48 ∷ 57 ∷ 48 ∷ 48 ∷ 70 ∷ 55 ∷ 10 ∷ 58 ∷ 48 ∷ 48 ∷ 48 ∷ 48 ∷ 48 ∷ 48 ∷ 48 ∷ 49 ∷ 70 ∷ 70 ∷ 10 ∷ []) (load 0 0 noShift)) [] 0 0 1 1 nothing
       -- an offset; a bad text, and a good one, through a token that names nothing
-      ∷ refuses (over (58 ∷ 48 ∷ 51 ∷ 48 ∷ 48 ∷ 48 ∷ 50 ∷ 48 ∷ 48 ∷ 67 ∷ 57 ∷ 67 ∷ 65 ∷ 67 ∷ 66 ∷ 57 ∷ 68 ∷ 10 ∷ 58 ∷ 48 ∷ 48 ∷ 48 ∷ 48 ∷ 48 ∷ 48 ∷ 48 ∷ 49 ∷ 70 ∷ 70 ∷ 10 ∷ []) (load 1 0)) 1 0 0 1 1
-      ∷ refuses (over [] (load 1 0)) 1 0 0 1 1
-      ∷ refuses (over [] (load 1099511627776 0)) 12 0 0 1 1
-      ∷ refuses (over (58 ∷ 48 ∷ 51 ∷ 48 ∷ 48 ∷ 48 ∷ 50 ∷ 48 ∷ 48 ∷ 67 ∷ 57 ∷ 67 ∷ 65 ∷ 67 ∷ 66 ∷ 57 ∷ 68 ∷ 10 ∷ 58 ∷ 48 ∷ 48 ∷ 48 ∷ 48 ∷ 48 ∷ 48 ∷ 48 ∷ 49 ∷ 70 ∷ 70 ∷ 10 ∷ []) (load 1099511627776 0)) 2 0 0 1 1
+      ∷ refuses (over (58 ∷ 48 ∷ 51 ∷ 48 ∷ 48 ∷ 48 ∷ 50 ∷ 48 ∷ 48 ∷ 67 ∷ 57 ∷ 67 ∷ 65 ∷ 67 ∷ 66 ∷ 57 ∷ 68 ∷ 10 ∷ 58 ∷ 48 ∷ 48 ∷ 48 ∷ 48 ∷ 48 ∷ 48 ∷ 48 ∷ 49 ∷ 70 ∷ 70 ∷ 10 ∷ []) (load 1 0 noShift)) 1 0 0 1 1
+      ∷ refuses (over [] (load 1 0 noShift)) 1 0 0 1 1
+      ∷ refuses (over [] (load 1099511627776 0 noShift)) 12 0 0 1 1
+      ∷ refuses (over (58 ∷ 48 ∷ 51 ∷ 48 ∷ 48 ∷ 48 ∷ 50 ∷ 48 ∷ 48 ∷ 67 ∷ 57 ∷ 67 ∷ 65 ∷ 67 ∷ 66 ∷ 57 ∷ 68 ∷ 10 ∷ 58 ∷ 48 ∷ 48 ∷ 48 ∷ 48 ∷ 48 ∷ 48 ∷ 48 ∷ 49 ∷ 70 ∷ 70 ∷ 10 ∷ []) (load 1099511627776 0 noShift)) 2 0 0 1 1
       -- the text of 20 bytes; a buffer that lacks one; an offset
-      ∷ dumps (over (zeros 92) (dump 0 0)) 92 0 1 1 (text 0 20)
-      ∷ refuses (over (zeros 91) (dump 0 0)) 14 0 0 1 1
-      ∷ refuses (over (zeros 92) (dump 1 0)) 1 0 0 1 1
+      ∷ dumps (over (zeros 92) (dump 0 0 noShift)) 92 0 1 1 (text 0 20)
+      ∷ refuses (over (zeros 91) (dump 0 0 noShift)) 14 0 0 1 1
+      ∷ refuses (over (zeros 92) (dump 1 0 noShift)) 1 0 0 1 1
       -- under a lock
       ∷ grants (plain (lock 0 7)) [] 0 0 1 1 nothing
-      ∷ refuses (over (58 ∷ 48 ∷ 51 ∷ 48 ∷ 48 ∷ 48 ∷ 50 ∷ 48 ∷ 48 ∷ 67 ∷ 57 ∷ 67 ∷ 65 ∷ 67 ∷ 66 ∷ 57 ∷ 68 ∷ 10 ∷ 58 ∷ 48 ∷ 48 ∷ 48 ∷ 48 ∷ 48 ∷ 48 ∷ 48 ∷ 49 ∷ 70 ∷ 70 ∷ 10 ∷ []) (load 0 8)) 5 0 0 1 1
-      ∷ refuses (over (zeros 92) (dump 0 0)) 5 0 0 1 1
-      ∷ grants (over (58 ∷ 48 ∷ 51 ∷ 48 ∷ 48 ∷ 48 ∷ 50 ∷ 48 ∷ 48 ∷ 67 ∷ 57 ∷ 67 ∷ 65 ∷ 67 ∷ 66 ∷ 57 ∷ 68 ∷ 10 ∷ 58 ∷ 48 ∷ 48 ∷ 48 ∷ 48 ∷ 48 ∷ 48 ∷ 48 ∷ 49 ∷ 70 ∷ 70 ∷ 10 ∷ []) (load 0 7)) [] 0 0 1 1 (store 2 (201 ∷ 202 ∷ 203 ∷ []))
-      ∷ dumps (over (zeros 93) (dump 0 7)) 92 0 1 1 (text 0 20)
+      ∷ refuses (over (58 ∷ 48 ∷ 51 ∷ 48 ∷ 48 ∷ 48 ∷ 50 ∷ 48 ∷ 48 ∷ 67 ∷ 57 ∷ 67 ∷ 65 ∷ 67 ∷ 66 ∷ 57 ∷ 68 ∷ 10 ∷ 58 ∷ 48 ∷ 48 ∷ 48 ∷ 48 ∷ 48 ∷ 48 ∷ 48 ∷ 49 ∷ 70 ∷ 70 ∷ 10 ∷ []) (load 0 8 noShift)) 5 0 0 1 1
+      ∷ refuses (over (zeros 92) (dump 0 0 noShift)) 5 0 0 1 1
+      ∷ grants (over (58 ∷ 48 ∷ 51 ∷ 48 ∷ 48 ∷ 48 ∷ 50 ∷ 48 ∷ 48 ∷ 67 ∷ 57 ∷ 67 ∷ 65 ∷ 67 ∷ 66 ∷ 57 ∷ 68 ∷ 10 ∷ 58 ∷ 48 ∷ 48 ∷ 48 ∷ 48 ∷ 48 ∷ 48 ∷ 48 ∷ 49 ∷ 70 ∷ 70 ∷ 10 ∷ []) (load 0 7 noShift)) [] 0 0 1 1 (store 2 (201 ∷ 202 ∷ 203 ∷ []))
+      ∷ dumps (over (zeros 93) (dump 0 7 noShift)) 92 0 1 1 (text 0 20)
       ∷ [];
   left = 0x2000000000000002800000000000000001c0000000000000003e000000000000 ∷ 0 ∷ [];
 }
@@ -446,8 +484,8 @@ limits =
     ∷ limit 8 64 0 1 1 (plain (clone 0)) 2
     ∷ limit 8 64 0 1 2 (plain (clone 0)) 1
     ∷ limit 8 64 0 1 2 (plain (reset 0 0 1)) 0
-    ∷ limit 8 64 0 1 2 (over [] (load 0 0)) 1
-    ∷ limit 8 64 0 1 2 (over (zeros 1) (access writing 0 0)) 1
+    ∷ limit 8 64 0 1 2 (over [] (load 0 0 noShift)) 1
+    ∷ limit 8 64 0 1 2 (over (zeros 1) (access writing 0 0 noShift)) 1
     ∷ limit 8 64 0 1 2 (plain (create 0 0 1 0 0 0)) 1
     ∷ limit 8 64 0 1 2 (plain (merge 0 0 0 0)) 1
     ∷ limit 8 64 0 1 2 (plain (derive 0 0 1 0 0)) 1
@@ -456,9 +494,9 @@ limits =
     ∷ limit 8 64 0 1 2 (plain (lock 0 1)) 1
     ∷ limit 8 64 0 1 2 (plain (unlock 0 1)) 1
     ∷ limit 8 64 0 1 2 (plain (revoke 0 0)) 1
-    ∷ limit 8 64 0 1 2 (over (zeros 56) (dump 0 0)) 1
-    ∷ limit 8 64 0 1 0 (over (zeros 1) (access reading 0 0)) 2
-    ∷ limit 8 64 2 1 0 (over (zeros 1) (access writing 0 0)) 1
+    ∷ limit 8 64 0 1 2 (over (zeros 56) (dump 0 0 noShift)) 1
+    ∷ limit 8 64 0 1 0 (over (zeros 1) (access reading 0 0 noShift)) 2
+    ∷ limit 8 64 2 1 0 (over (zeros 1) (access writing 0 0 noShift)) 1
     ∷ limit 8 64 2 1 0 (plain (create 0 0 1 0 0 0)) 1
     ∷ limit 8 64 2 1 0 (plain (merge 0 0 0 0)) 1
     ∷ limit 8 64 2 1 0 (plain (derive 0 0 1 0 0)) 1
@@ -467,10 +505,10 @@ limits =
     ∷ limit 8 64 2 1 0 (plain (lock 0 1)) 1
     ∷ limit 8 64 2 1 0 (plain (unlock 0 1)) 1
     ∷ limit 8 64 2 1 0 (plain (revoke 0 0)) 1
-    ∷ limit 8 64 2 1 0 (over ended (load 0 0)) 1
-    ∷ limit 8 64 2 1 0 (over (zeros 56) (dump 0 0)) 1
-    ∷ limit 8 64 0 1 0 (over ended (load 0 0)) 2
-    ∷ limit 8 64 0 1 0 (over [] (dump 0 0)) 2
+    ∷ limit 8 64 2 1 0 (over ended (load 0 0 noShift)) 1
+    ∷ limit 8 64 2 1 0 (over (zeros 56) (dump 0 0 noShift)) 1
+    ∷ limit 8 64 0 1 0 (over ended (load 0 0 noShift)) 2
+    ∷ limit 8 64 0 1 0 (over [] (dump 0 0 noShift)) 2
     ∷ []
 
 -- the same, where the table or the buffer is long: computed in `uses`
@@ -478,16 +516,79 @@ abbrev pub limitsAbove : List Row
 limitsAbove =
     limit 8 32768 0 0 0 (plain (reset 0 0 1)) 0
     ∷ limit 8 32800 0 0 0 (plain (reset 0 0 1)) 1
-    ∷ limit 8 64 0 1 0 (over (zeros 4096) (access reading 0 0)) 2
-    ∷ limit 8 64 0 1 0 (over (zeros 4097) (access reading 0 0)) 1
+    ∷ limit 8 64 0 1 0 (over (zeros 4096) (access reading 0 0 noShift)) 2
+    ∷ limit 8 64 0 1 0 (over (zeros 4097) (access reading 0 0 noShift)) 1
     ∷ []
+
+-- leases and minutes over the table that was handed over, with a text whose checksum is wrong
+abbrev wrongSum : List ℕ
+wrongSum = 58 ∷ 48 ∷ 48 ∷ 48 ∷ 48 ∷ 48 ∷ 48 ∷ 48 ∷ 49 ∷ 70 ∷ 69 ∷ 10 ∷ []
+
+abbrev inShifts : Session
+inShifts = record {
+  memory = 64;
+  state = known 1 2 14 100 15;
+  table = handed;
+  rows =
+      -- the ends of a window
+      refuses (over (zeros 1) (access reading 0x4028000000000000 0 (during 479 day))) 15 0 14 100 15
+      ∷ grants (over (zeros 1) (access reading 0x4028000000000000 0 (during 480 day))) [] 0 14 100 15 (fetch 0 1)
+      ∷ grants (over (zeros 1) (access reading 0x4028000000000000 0 (during 959 day))) [] 0 14 100 15 (fetch 0 1)
+      ∷ refuses (over (zeros 1) (access reading 0x4028000000000000 0 (during 960 day))) 15 0 14 100 15
+      ∷ grants (over (zeros 1) (access reading 0x4028000000000000 0 (during 479 night))) [] 0 14 100 15 (fetch 0 1)
+      ∷ refuses (over (zeros 1) (access reading 0x4028000000000000 0 (during 480 night))) 15 0 14 100 15
+      ∷ refuses (over (zeros 1) (access reading 0x4028000000000000 0 (during 959 night))) 15 0 14 100 15
+      ∷ grants (over (zeros 1) (access reading 0x4028000000000000 0 (during 960 night))) [] 0 14 100 15 (fetch 0 1)
+      ∷ grants (over (zeros 1) (access reading 0x4028000000000000 0 (during 10079 lastMinute))) [] 0 14 100 15 (fetch 0 1)
+      ∷ refuses (over (zeros 1) (access reading 0x4028000000000000 0 (during 0 lastMinute))) 15 0 14 100 15
+      -- several, and others
+      ∷ refuses (over (zeros 1) (access reading 0x4028000000000000 0 (during 999 twice))) 15 0 14 100 15
+      ∷ grants (over (zeros 1) (access reading 0x4028000000000000 0 (during 1000 twice))) [] 0 14 100 15 (fetch 0 1)
+      ∷ grants (over (zeros 1) (access reading 0x4028000000000000 0 (during 500 twice))) [] 0 14 100 15 (fetch 0 1)
+      ∷ grants (over (zeros 1) (access reading 0x4028000000000000 0 (during 0 others))) [] 0 14 100 15 (fetch 0 1)
+      ∷ grants (over (zeros 1) (access reading 0x28000000000000 0 (during 0 []))) [] 0 14 100 15 (fetch 0 1)
+      ∷ grants (over (zeros 1) (access reading 0x4028800000000002 7 (during 0 locked))) [] 0 14 100 15 (fetch 18 1)
+      -- each request that is an access
+      ∷ refuses (over (200 ∷ []) (access writing 0x4028000000000000 0 (during 0 day))) 15 0 14 100 15
+      ∷ refuses (over (zeros 1) (access fetching 0x4028000000000000 0 (during 0 day))) 15 0 14 100 15
+      ∷ refuses (over ended (load 0x28000000000000 0 (during 0 day))) 15 0 14 100 15
+      ∷ refuses (over (zeros 72) (dump 0x28000000000000 0 (during 0 day))) 15 0 14 100 15
+      ∷ refuses (over (200 ∷ []) (access writing 0x4028000000000000 0 (during 480 equal))) 16 0 14 100 15
+      ∷ refuses (over (zeros 1) (access fetching 0x4028000000000000 0 (during 480 opensLate))) 16 0 14 100 15
+      ∷ refuses (over (zeros 1) (access reading 0x4028000000000000 0 (during 480 closesLate))) 16 0 14 100 15
+      ∷ refuses (over ended (load 0x28000000000000 0 (during 480 equal))) 16 0 14 100 15
+      ∷ refuses (over (zeros 72) (dump 0x28000000000000 0 (during 480 equal))) 16 0 14 100 15
+      ∷ refuses (over (200 ∷ []) (access writing 0x4028000000000000 0 (during 10080 night))) 1 0 14 100 15
+      ∷ refuses (over ended (load 0x28000000000000 0 (during 10080 []))) 1 0 14 100 15
+      ∷ refuses (over (zeros 72) (dump 0x28000000000000 0 (during 10080 []))) 1 0 14 100 15
+      -- the order of checks
+      ∷ refuses (over (zeros 1) (access reading 0x4028000000000000 36028797018963968 (during 480 equal))) 1 0 14 100 15
+      ∷ refuses (over (zeros 1) (access reading 0x4028000000000000 0 (during 480 (0 ∷ 0 ∷ 160 ∷ 0 ∷ 7 ∷ 0 ∷ 7 ∷ [])))) 1 0 14 100 15
+      ∷ refuses (over (zeros 1) (access reading 0x4028000000000000 0 (during 480 (zeros 520)))) 1 0 14 100 15
+      ∷ refuses (over (zeros 1) (access reading 0x4028000000000000 0 (during 480 (zeros 512)))) 16 0 14 100 15
+      ∷ refuses (over [] (load 0x28000000000000 0 (during 480 equal))) 12 0 14 100 15
+      ∷ refuses (over wrongSum (load 0x28000000000000 0 (during 480 equal))) 13 0 14 100 15
+      ∷ refuses (over (zeros 1) (access reading 0xf00000000 0 (during 480 equal))) 16 0 14 100 15
+      ∷ refuses (over (zeros 1) (access reading 0x4029400000000005 0 (during 0 broken))) 3 1 14 100 15
+      ∷ refuses (over (zeros 1) (access reading 0x4029c00000000007 0 (during 0 broken))) 4 1 14 100 15
+      ∷ refuses (over (zeros 1) (access reading 0x4028400000000001 8 (during 0 locked))) 5 0 14 100 15
+      ∷ refuses (over (zeros 1) (access reading 0x4028400000000001 7 (during 0 locked))) 15 0 14 100 15
+      ∷ refuses (over (zeros 1) (access reading 0x4028c00000000003 0 (during 0 unread))) 15 0 14 100 15
+      ∷ refuses (over (zeros 1) (access reading 0x4028c00000000003 0 (during 480 unread))) 7 0 14 100 15
+      ∷ refuses (over (zeros 1) (access reading 0x28000000000010 0 (during 0 day))) 15 0 14 100 15
+      ∷ refuses (over (zeros 1) (access reading 0x28000000000010 0 (during 480 day))) 8 0 14 100 15
+      ∷ refuses (over (zeros 1) (dump 0x28000000000000 0 (during 0 day))) 15 0 14 100 15
+      ∷ refuses (over (zeros 1) (dump 0x28000000000000 0 (during 480 day))) 14 0 14 100 15
+      ∷ [];
+  left = handed;
+}
 
 -- computed in this crate, and in `uses`
 abbrev pub sessions : List Session
 sessions = handedOver ∷ handedOn ∷ goingRound ∷ lastNonces ∷ wholes ∷ noneLeft ∷ imaged ∷ []
 
 abbrev pub sessionsAbove : List Session
-sessionsAbove = fromReset ∷ []
+sessionsAbove = fromReset ∷ inShifts ∷ []
 
 -- bytes that are written, read and fetched, loaded and dumped, through the root of 8 bytes
 abbrev root8 : List ℕ
@@ -496,15 +597,15 @@ root8 = 0x200000000000000100000000000000000000000000000000003a000000000000 ∷ 0
 abbrev pub bytesMoved : List Row
 bytesMoved =
     moves (known 0 0 0 1 0) root8 (1 ∷ 2 ∷ 3 ∷ 4 ∷ 5 ∷ 6 ∷ 7 ∷ 8 ∷ [])
-    (over (201 ∷ 202 ∷ 203 ∷ []) (access writing 2 0) ∷ over (zeros 4) (access reading 1 0) ∷ [])
+    (over (201 ∷ 202 ∷ 203 ∷ []) (access writing 2 0 noShift) ∷ over (zeros 4) (access reading 1 0 noShift) ∷ [])
     (201 ∷ 202 ∷ 203 ∷ 2 ∷ 201 ∷ 202 ∷ 203 ∷ [])
     (1 ∷ 2 ∷ 201 ∷ 202 ∷ 203 ∷ 6 ∷ 7 ∷ 8 ∷ [])
     ∷ moves (known 0 0 0 1 0) root8 (1 ∷ 2 ∷ 201 ∷ 202 ∷ 203 ∷ 6 ∷ 7 ∷ 8 ∷ [])
-    (over (zeros 2) (access fetching 4 0) ∷ over (9 ∷ 9 ∷ []) (access reading 7 0) ∷ [])
+    (over (zeros 2) (access fetching 4 0 noShift) ∷ over (9 ∷ 9 ∷ []) (access reading 7 0 noShift) ∷ [])
     (203 ∷ 6 ∷ 9 ∷ 9 ∷ [])
     (1 ∷ 2 ∷ 201 ∷ 202 ∷ 203 ∷ 6 ∷ 7 ∷ 8 ∷ [])
     ∷ moves (known 0 0 0 1 0) root8 (1 ∷ 2 ∷ 3 ∷ 4 ∷ 5 ∷ 6 ∷ 7 ∷ 8 ∷ [])
-    (over (58 ∷ 48 ∷ 52 ∷ 48 ∷ 48 ∷ 48 ∷ 48 ∷ 48 ∷ 48 ∷ 48 ∷ 66 ∷ 48 ∷ 67 ∷ 48 ∷ 68 ∷ 48 ∷ 69 ∷ 67 ∷ 65 ∷ 10 ∷ 58 ∷ 48 ∷ 50 ∷ 48 ∷ 48 ∷ 48 ∷ 50 ∷ 48 ∷ 48 ∷ 97 ∷ 98 ∷ 99 ∷ 100 ∷ 56 ∷ 52 ∷ 10 ∷ 58 ∷ 48 ∷ 50 ∷ 48 ∷ 48 ∷ 48 ∷ 48 ∷ 48 ∷ 52 ∷ 48 ∷ 48 ∷ 48 ∷ 55 ∷ 70 ∷ 51 ∷ 10 ∷ 58 ∷ 48 ∷ 50 ∷ 48 ∷ 48 ∷ 48 ∷ 48 ∷ 48 ∷ 52 ∷ 48 ∷ 48 ∷ 48 ∷ 48 ∷ 70 ∷ 65 ∷ 10 ∷ 58 ∷ 48 ∷ 49 ∷ 48 ∷ 48 ∷ 48 ∷ 55 ∷ 48 ∷ 48 ∷ 54 ∷ 51 ∷ 57 ∷ 53 ∷ 10 ∷ 58 ∷ 48 ∷ 48 ∷ 48 ∷ 48 ∷ 48 ∷ 48 ∷ 48 ∷ 49 ∷ 70 ∷ 70 ∷ 10 ∷ []) (load 0 0) ∷ over (zeros 58) (dump 0 0) ∷ [])
+    (over (58 ∷ 48 ∷ 52 ∷ 48 ∷ 48 ∷ 48 ∷ 48 ∷ 48 ∷ 48 ∷ 48 ∷ 66 ∷ 48 ∷ 67 ∷ 48 ∷ 68 ∷ 48 ∷ 69 ∷ 67 ∷ 65 ∷ 10 ∷ 58 ∷ 48 ∷ 50 ∷ 48 ∷ 48 ∷ 48 ∷ 50 ∷ 48 ∷ 48 ∷ 97 ∷ 98 ∷ 99 ∷ 100 ∷ 56 ∷ 52 ∷ 10 ∷ 58 ∷ 48 ∷ 50 ∷ 48 ∷ 48 ∷ 48 ∷ 48 ∷ 48 ∷ 52 ∷ 48 ∷ 48 ∷ 48 ∷ 55 ∷ 70 ∷ 51 ∷ 10 ∷ 58 ∷ 48 ∷ 50 ∷ 48 ∷ 48 ∷ 48 ∷ 48 ∷ 48 ∷ 52 ∷ 48 ∷ 48 ∷ 48 ∷ 48 ∷ 70 ∷ 65 ∷ 10 ∷ 58 ∷ 48 ∷ 49 ∷ 48 ∷ 48 ∷ 48 ∷ 55 ∷ 48 ∷ 48 ∷ 54 ∷ 51 ∷ 57 ∷ 53 ∷ 10 ∷ 58 ∷ 48 ∷ 48 ∷ 48 ∷ 48 ∷ 48 ∷ 48 ∷ 48 ∷ 49 ∷ 70 ∷ 70 ∷ 10 ∷ []) (load 0 0 noShift) ∷ over (zeros 58) (dump 0 0 noShift) ∷ [])
     (58 ∷ 48 ∷ 52 ∷ 48 ∷ 48 ∷ 48 ∷ 48 ∷ 48 ∷ 48 ∷ 48 ∷ 66 ∷ 48 ∷ 67 ∷ 48 ∷ 68 ∷ 48 ∷ 69 ∷ 67 ∷ 65 ∷ 10 ∷ 58 ∷ 48 ∷ 50 ∷ 48 ∷ 48 ∷ 48 ∷ 50 ∷ 48 ∷ 48 ∷ 97 ∷ 98 ∷ 99 ∷ 100 ∷ 56 ∷ 52 ∷ 10 ∷ 58 ∷ 48 ∷ 50 ∷ 48 ∷ 48 ∷ 48 ∷ 48 ∷ 48 ∷ 52 ∷ 48 ∷ 48 ∷ 48 ∷ 55 ∷ 70 ∷ 51 ∷ 10 ∷ 58 ∷ 48 ∷ 50 ∷ 48 ∷ 48 ∷ 48 ∷ 48 ∷ 48 ∷ 52 ∷ 48 ∷ 48 ∷ 48 ∷ 48 ∷ 70 ∷ 65 ∷ 10 ∷ 58 ∷ 48 ∷ 49 ∷ 48 ∷ 48 ∷ 48 ∷ 55 ∷ 48 ∷ 48 ∷ 54 ∷ 51 ∷ 57 ∷ 53 ∷ 10 ∷ 58 ∷ 48 ∷ 48 ∷ 48 ∷ 48 ∷ 48 ∷ 48 ∷ 48 ∷ 49 ∷ 70 ∷ 70 ∷ 10 ∷ 58 ∷ 48 ∷ 50 ∷ 48 ∷ 48 ∷ 48 ∷ 48 ∷ 48 ∷ 52 ∷ 48 ∷ 48 ∷ 48 ∷ 48 ∷ 70 ∷ 65 ∷ 10 ∷ 58 ∷ 48 ∷ 56 ∷ 48 ∷ 48 ∷ 48 ∷ 48 ∷ 48 ∷ 48 ∷ 48 ∷ 66 ∷ 48 ∷ 67 ∷ 65 ∷ 66 ∷ 67 ∷ 68 ∷ 48 ∷ 53 ∷ 48 ∷ 54 ∷ 48 ∷ 55 ∷ 54 ∷ 51 ∷ 70 ∷ 52 ∷ 10 ∷ 58 ∷ 48 ∷ 48 ∷ 48 ∷ 48 ∷ 48 ∷ 48 ∷ 48 ∷ 49 ∷ 70 ∷ 70 ∷ 10 ∷ 0 ∷ 0 ∷ [])
     (11 ∷ 12 ∷ 171 ∷ 205 ∷ 5 ∷ 6 ∷ 7 ∷ 99 ∷ [])
     ∷ []

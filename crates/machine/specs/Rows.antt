@@ -14,7 +14,7 @@ use Rattle.machine.specs.Stops.{Check, checks, refusalNumber}
 -- the rows of 01's table, and the refusals of 02, by their numbers, that each request is judged by
 abbrev pub row : Request → List ℕ
 row (reset k0 k1 ν) = 1 ∷ []
-row (access w k u) = 1 ∷ 2 ∷ 3 ∷ 4 ∷ 5 ∷ 7 ∷ 8 ∷ []
+row (access w k u φ) = 1 ∷ 16 ∷ 2 ∷ 3 ∷ 4 ∷ 5 ∷ 15 ∷ 7 ∷ 8 ∷ []
 row (create k u l x p c) = 1 ∷ 2 ∷ 3 ∷ 4 ∷ 5 ∷ 6 ∷ 7 ∷ 8 ∷ 9 ∷ 10 ∷ 11 ∷ []
 row (merge j k u c) = 1 ∷ 2 ∷ 3 ∷ 4 ∷ 5 ∷ 2 ∷ 3 ∷ 4 ∷ 5 ∷ 6 ∷ 8 ∷ 9 ∷ 11 ∷ []
 row (derive k o l p c) = 1 ∷ 2 ∷ 3 ∷ 4 ∷ 7 ∷ 8 ∷ 9 ∷ 10 ∷ 11 ∷ []
@@ -24,8 +24,8 @@ row (release k) = 1 ∷ 2 ∷ 3 ∷ 9 ∷ []
 row (lock k u) = 1 ∷ 2 ∷ 3 ∷ 4 ∷ 5 ∷ 7 ∷ []
 row (unlock k u) = 1 ∷ 2 ∷ 3 ∷ 4 ∷ 5 ∷ 9 ∷ []
 row (revoke k c) = 1 ∷ 2 ∷ 3 ∷ 4 ∷ 6 ∷ 11 ∷ []
-row (load k u) = 1 ∷ 12 ∷ 13 ∷ 2 ∷ 3 ∷ 4 ∷ 5 ∷ 7 ∷ 8 ∷ []
-row (dump k u) = 1 ∷ 2 ∷ 3 ∷ 4 ∷ 5 ∷ 7 ∷ 14 ∷ []
+row (load k u φ) = 1 ∷ 12 ∷ 13 ∷ 16 ∷ 2 ∷ 3 ∷ 4 ∷ 5 ∷ 15 ∷ 7 ∷ 8 ∷ []
+row (dump k u φ) = 1 ∷ 16 ∷ 2 ∷ 3 ∷ 4 ∷ 5 ∷ 15 ∷ 7 ∷ 14 ∷ []
 
 -- place 11 is judged for every request, after all others: a row with 11 at its end. A request that 14 may stop issues nothing, so that 14 is the last that does.
 abbrev pub ended : List ℕ → List ℕ

@@ -10,7 +10,7 @@ use Rattle.tokens.specs.Permissions.{R}
 use Rattle.tokens.specs.Token.{token}
 use Rattle.machine.specs.Operations.{Decision}
 use Rattle.machine.specs.Parts.{State}
-use Rattle.machine.specs.Requests.{access, Call, create, derive, lock, reading, Request, reset}
+use Rattle.machine.specs.Requests.{access, Call, create, derive, lock, noShift, reading, Request, reset}
 use Rattle.machine.specs.Steps.{Answer, answers, decide, Machine, run}
 
 abbrev pub bytes65536 : ℕ
@@ -43,7 +43,7 @@ abbrev zeroAt : ℕ → ℕ
 zeroAt o = token 0 (record { tag = 0; number = 0; offset = o })
 
 abbrev read : (length offset task : ℕ) → Call
-read l o u = record { request = access reading (zeroAt o) u; buffer = replicate l 0 }
+read l o u = record { request = access reading (zeroAt o) u noShift; buffer = replicate l 0 }
 
 abbrev pub plain : Request → Call
 plain q = record { request = q; buffer = [] }

@@ -8,6 +8,7 @@ use lib.Dec.{eqb, leb, ltb}
 use lib.ListN.{length}
 use Rattle.hex.specs.Text.{farthest}
 use Rattle.layout.specs.declared.entry.Entry.{Entry}
+use Rattle.leases.specs.Lease.{allSound, few, isOpen, leasesOf, week, whole}
 use Rattle.tokens.specs.Permissions.{R, W, within, X}
 use Rattle.tokens.specs.Token.{named}
 use Rattle.machine.specs.Images.{mostText, piecesOf, spares, textFits}
@@ -15,7 +16,7 @@ use Rattle.machine.specs.Issuing.{newNumber}
 use Rattle.machine.specs.Line.{ancestor, Bad, badOf, isDead, isIll, isLocked, itself, lineOf, lockedFrom, ownerOf}
 use Rattle.machine.specs.Operations.{book, Grant, grant, namedEntry, numberOf}
 use Rattle.machine.specs.Parts.{at, leastEntries, mostEntries, mostFree, mostMemory, size, spent, State}
-use Rattle.machine.specs.Requests.{access, clone, create, derive, dump, executeOnly, load, lock, merge, release, Request, reset, revoke, rightOf, unlock}
+use Rattle.machine.specs.Requests.{access, clone, create, derive, dump, executeOnly, load, lock, merge, release, Request, reset, revoke, rightOf, Shift, unlock}
 
 -- ---- the refusals
 
@@ -35,9 +36,11 @@ pub data Refusal : Type 0 where
   atRecord : Refusal
   atChecksum : Refusal
   atRoom : Refusal
+  atWindow : Refusal
+  atLease : Refusal
 
 -- the column "No." of 01's table; 02, paper 2: "12 a malformed record or ending", "13 a wrong checksum", "14 an output buffer too small or a written text above
--- 65,536 bytes"
+-- 65,536 bytes"; paper 4: "15 closed", "16 a lease whose minutes are equal or either is beyond the week"
 abbrev pub refusalNumber : Refusal → ℕ
 refusalNumber atRequest = 1
 refusalNumber atEntry = 2
@@ -53,6 +56,8 @@ refusalNumber atNonces = 11
 refusalNumber atRecord = 12
 refusalNumber atChecksum = 13
 refusalNumber atRoom = 14
+refusalNumber atWindow = 15
+refusalNumber atLease = 16
 
 -- the named entry is 1, an ancestor 2; a refusal that tells of no entry has 0
 abbrev pub badNumber : Bad → ℕ
@@ -74,6 +79,8 @@ refusalBad atNonces = 0
 refusalBad atRecord = 0
 refusalBad atChecksum = 0
 refusalBad atRoom = 0
+refusalBad atWindow = 0
+refusalBad atLease = 0
 
 -- what must hold, and the refusal that is given if it does not
 pub record Check : Type 0 where
@@ -221,89 +228,144 @@ noncesLeft s t g = need atNonces (leb (book s t g .state .next) spent)
 
 -- ---- the checks of each request
 
--- by their places: 1, what the request itself is judged for; 2 to 5, its tokens, after 12 and 13; 6 to 10 and 14, the rest
+-- by their places: 1, what the request itself is judged for; what 02 puts after it; 2 to 5, its tokens, and 15; 6 to 10 and 14, the rest
 pub record Places : Type 0 where
   pub request : List Bool
+  pub after : List Check
   pub tokens : List Check
   pub rest : List Check
 
-abbrev pub places : ℕ → State → List ℕ → Request → List ℕ → Places
-places m s t (reset k0 k1 ν) b = record { request = firstNonceFits ν; tokens = []; rest = [] }
-places m s t (access w k u) b =
+-- those of 01 and of 02's papers 1 to 3, which do not look at a shift
+abbrev pub unleased : ℕ → State → List ℕ → Request → List ℕ → Places
+unleased m s t (reset k0 k1 ν) b = record { request = firstNonceFits ν; after = []; tokens = []; rest = [] }
+unleased m s t (access w k u φ) b =
     let e = namedEntry t k in
     record {
       request = settings s t ++ (taskFits u ∷ transferFits b);
+      after = [];
       tokens = reachable m t k u;
       rest = rightsHeld (rightOf w) e ∷ endsInside (named k .offset + length b) e ∷ [];
     }
-places m s t (create k u l x p c) b =
+unleased m s t (create k u l x p c) b =
     let e = namedEntry t k in
     record {
       request = settings s t ++ (taskFits u ∷ encodingFits c ∷ permissionsFit p ∷ someLength l ∷ userFits x ∷ noOffset k ∷ []);
+      after = [];
       tokens = reachable m t k u;
       rest = need atKind (isDirect e) ∷ rightsHeld p e ∷ endsInside l e ∷ need atStanding (unlocked e) ∷ need atStanding (uncounted e) ∷ numberLeft s t ∷ [];
     }
 -- "Places 2 to 5 are done for a merge's first token, then its second."
-places m s t (merge j k u c) b =
+unleased m s t (merge j k u c) b =
     let d = namedEntry t j in
     let e = namedEntry t k in
     record {
       request = settings s t ++ (taskFits u ∷ encodingFits c ∷ noOffset j ∷ noOffset k ∷ []);
+      after = [];
       tokens = reachable m t j u ++ reachable m t k u;
       rest = needAll atKind (isDirect d ∷ isDirect e ∷ []) ++ (neighbours d e ∷ needAll atStanding (unlocked d ∷ unlocked e ∷ uncounted d ∷ uncounted e ∷ []));
     }
 -- 02, paper 1: "From now on length + offset may equal the segment's length."
-places m s t (derive k o l p c) b =
+unleased m s t (derive k o l p c) b =
     let e = namedEntry t k in
     record {
       request = settings s t ++ (encodingFits c ∷ permissionsFit p ∷ someLength l ∷ noOffset k ∷ []);
+      after = [];
       tokens = live m t k;
       rest = rightsHeld p e ∷ endsInside (l + o) e ∷ bearing s t e;
     }
-places m s t (executeOnly k c) b =
+unleased m s t (executeOnly k c) b =
     let e = namedEntry t k in
     record {
       request = settings s t ++ (encodingFits c ∷ noOffset k ∷ []);
+      after = [];
       tokens = live m t k;
       rest = rightsHeld X e ∷ bearing s t e;
     }
-places m s t (clone k) b = record { request = settings s t ++ (noOffset k ∷ []); tokens = live m t k; rest = belowTop (namedEntry t k) ∷ [] }
-places m s t (release k) b = record { request = settings s t ++ (noOffset k ∷ []); tokens = formed m t k; rest = aboveZero (namedEntry t k) ∷ [] }
+unleased m s t (clone k) b = record { request = settings s t ++ (noOffset k ∷ []); after = []; tokens = live m t k; rest = belowTop (namedEntry t k) ∷ [] }
+unleased m s t (release k) b = record { request = settings s t ++ (noOffset k ∷ []); after = []; tokens = formed m t k; rest = aboveZero (namedEntry t k) ∷ [] }
 -- "needs the owner's Lockable"
-places m s t (lock k u) b =
+unleased m s t (lock k u) b =
     let owner = at t (ownerOf (lineOf m t (numberOf k))) in
     record {
       request = settings s t ++ (taskFits u ∷ someTask u ∷ noOffset k ∷ []);
+      after = [];
       tokens = reachable m t k u;
       rest = need atRight (owner .lockable) ∷ [];
     }
 -- "unlock when unlocked"
-places m s t (unlock k u) b = record {
+unleased m s t (unlock k u) b = record {
   request = settings s t ++ (taskFits u ∷ someTask u ∷ noOffset k ∷ []);
+  after = [];
   tokens = reachable m t k u;
   rest = need atStanding (isLocked t (lineOf m t (numberOf k))) ∷ [];
 }
-places m s t (revoke k c) b = record { request = settings s t ++ (encodingFits c ∷ noOffset k ∷ []); tokens = live m t k; rest = need atKind (isDirect (namedEntry t k)) ∷ [] }
+unleased m s t (revoke k c) b = record { request = settings s t ++ (encodingFits c ∷ noOffset k ∷ []); after = []; tokens = live m t k; rest = need atKind (isDirect (namedEntry t k)) ∷ [] }
 -- 02, paper 2: "Loads and dumps [..] use the access checks without the transfer limit". "every record's bounds": all data lie inside if what ends last does; "a
 -- data record without bytes [..] can't be out of bounds".
-places m s t (load k u) b =
+unleased m s t (load k u φ) b =
     let e = namedEntry t k in
     record {
       request = settings s t ++ (taskFits u ∷ noOffset k ∷ textShort b ∷ []);
-      tokens = textRead b ++ reachable m t k u;
+      after = textRead b;
+      tokens = reachable m t k u;
       rest = rightsHeld W e ∷ endsInside (farthest (piecesOf b)) e ∷ [];
     }
 -- A dump is of the whole segment, which has no bounds to pass; "14 [..], last of all".
-places m s t (dump k u) b =
+unleased m s t (dump k u φ) b =
     let e = namedEntry t k in
     record {
       request = settings s t ++ (taskFits u ∷ noOffset k ∷ []);
+      after = [];
       tokens = reachable m t k u;
       rest = rightsHeld R e ∷ needAll atRoom (textFits (e .length) b);
     }
 
+-- ---- shift windows: 15, 16 and place 1 of an access
+
+-- "a lent table of whole leases, at most 512 bytes, else 1"; "an access minute beyond the week is 1"
+abbrev pub shiftFits : Shift → List Bool
+shiftFits φ = whole (φ .leases) ∷ few (φ .leases) ∷ ltb (φ .minute) week ∷ []
+
+-- "16 a lease whose minutes are equal or either is beyond the week": any of those that are lent
+abbrev pub leasesSound : Shift → Check
+leasesSound φ = need atLease (allSound (leasesOf (φ .leases)))
+
+-- "15 closed": the token, by its number and tag, at this minute
+abbrev pub windowOpen : Shift → (token : ℕ) → Check
+windowOpen φ k = need atWindow (isOpen (leasesOf (φ .leases)) (numberOf k) (named k .tag) (φ .minute))
+
+-- what an access is judged for besides. 16 is "after place 1": "Later refusals put after the same place come by rising number", so behind 12 and 13; 15 is
+-- "after the lock".
+abbrev pub leased : Shift → (token : ℕ) → Places → Places
+leased φ k p = record {
+  request = p .request ++ shiftFits φ;
+  after = p .after ++ (leasesSound φ ∷ []);
+  tokens = p .tokens ++ (windowOpen φ k ∷ []);
+  rest = p .rest;
+}
+
+-- "both accesses only"; "Loads and dumps count as accesses."
+abbrev pub shifted : Request → Places → Places
+shifted (reset k0 k1 ν) p = p
+shifted (access w k u φ) p = leased φ k p
+shifted (create k u l x r c) p = p
+shifted (merge j k u c) p = p
+shifted (derive k o l r c) p = p
+shifted (executeOnly k c) p = p
+shifted (clone k) p = p
+shifted (release k) p = p
+shifted (lock k u) p = p
+shifted (unlock k u) p = p
+shifted (revoke k c) p = p
+shifted (load k u φ) p = leased φ k p
+shifted (dump k u φ) p = leased φ k p
+
+abbrev pub places : ℕ → State → List ℕ → Request → List ℕ → Places
+places m s t q b = shifted q (unleased m s t q b)
+
 -- "Checks run down this table." The sizes are judged for every request, and so is place 11: one that issues nothing needs no nonce.
+abbrev pub inOrder : ℕ → State → List ℕ → Grant → Places → List Check
+inOrder m s t g p = needAll atRequest (sizes m t ++ p .request) ++ ((p .after ++ p .tokens) ++ (p .rest ++ (noncesLeft s t g ∷ [])))
+
 abbrev pub checks : ℕ → State → List ℕ → Request → List ℕ → List Check
-checks m s t q b =
-    let p = places m s t q b in
-    needAll atRequest (sizes m t ++ p .request) ++ (p .tokens ++ (p .rest ++ (noncesLeft s t (grant m t q b) ∷ [])))
+checks m s t q b = inOrder m s t (grant m t q b) (places m s t q b)

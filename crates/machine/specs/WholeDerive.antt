@@ -11,7 +11,8 @@ use Rattle.machine.specs.Demand3.{Accepted}
 use Rattle.machine.specs.FromReset.{Sound}
 use Rattle.machine.specs.Given.{nameIn}
 use Rattle.machine.specs.Operations.{namedEntry}
-use Rattle.machine.specs.Requests.{access, Call, derive, executeOnly, rightOf, Way}
+use Rattle.machine.specs.Requests.{access, Call, derive, executeOnly, rightOf, Shift, Way}
+use Rattle.machine.specs.ShiftWindows.{Within}
 use Rattle.machine.specs.Steps.{answer, decision, Machine, step}
 
 -- a derive through the token k: l bytes at the offset o, with the permissions p
@@ -44,21 +45,22 @@ AsExecuteOnly =
     → decision σ (deriveCall k 0 (lengthOf σ k) X c b) ≡ decision σ (record { request = executeOnly k c; buffer = b })
 
 -- an access by a way, at an address: a token with an offset
-abbrev pub accessCall : Way → (address task : ℕ) (buffer : List ℕ) → Call
-accessCall w x u b = record { request = access w x u; buffer = b }
+abbrev pub accessCall : Way → (address task : ℕ) → Shift → (buffer : List ℕ) → Call
+accessCall w x u φ b = record { request = access w x u φ; buffer = b }
 
 -- "The weigher hands its complete buffer to a card": q passes on all that the token k names, with the permissions p. Its answer carries one token, and by
 -- that the card has what k has, as far as p allows: each access that k opens before q, at any offset and by a way that p has, its token opens after q, with
--- the same answer and the same memory left. x and y are the card's token and k, each in any encoding, with the same offset.
+-- the same answer and the same memory left. x and y are the card's token and k, each in any encoding, with the same offset. A lease of k is none of the
+-- card's token (02, paper 4): k is open in its own shift ψ, and the card's token in its own, φ, whether or not k would be.
 pub record PassedOn (σ : Machine) (k p : ℕ) (q : Call) : Type 0 where
   pub token : ℕ
   pub carried : answer σ q .reply .tokens ≡ token ∷ []
   pub opens :
       (w : Way) → within (rightOf w) p ≡ true
-      → (x y u : ℕ) (b : List ℕ) → nameIn x ≡ nameIn token → nameIn y ≡ nameIn k → named x .offset ≡ named y .offset
-      → Accepted σ (accessCall w y u b)
-      → (answer (step σ q) (accessCall w x u b) ≡ answer σ (accessCall w y u b))
-      × (step (step σ q) (accessCall w x u b) .memory ≡ step σ (accessCall w y u b) .memory)
+      → (x y u : ℕ) (φ ψ : Shift) (b : List ℕ) → nameIn x ≡ nameIn token → nameIn y ≡ nameIn k → named x .offset ≡ named y .offset
+      → Accepted σ (accessCall w y u ψ b) → Within φ x
+      → (answer (step σ q) (accessCall w x u φ b) ≡ answer σ (accessCall w y u ψ b))
+      × (step (step σ q) (accessCall w x u φ b) .memory ≡ step σ (accessCall w y u ψ b) .memory)
 
 -- so it is with every derive of the whole that is granted, on a machine that is in order, as every one is from reset on (`FromReset`)
 unfoldable pub Whole : Type 0

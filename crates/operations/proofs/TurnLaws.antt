@@ -6,7 +6,7 @@ use Prim.Native.Nat.{ℕ}
 use lib.ListN.{length}
 use Rattle.machine.specs.Operations.{Decision, Effect, Grant, grant, nothing}
 use Rattle.machine.specs.Parts.{State}
-use Rattle.machine.specs.Requests.{access, Request, revoke, Way, writing}
+use Rattle.machine.specs.Requests.{access, Request, revoke, Shift, Way, writing}
 use Rattle.machine.specs.Steps.{answer, bufferAfter, decide, memoryAfter, pass, settle, step, stop, Verdict, verdict}
 use Rattle.machine.specs.Stops.{atRequest, checks, needAll, noncesLeft, Places, places, sizes}
 use Rattle.table.specs.States.{stateAs}
@@ -25,7 +25,7 @@ record Unread (m : ℕ) (s : State) (t : List ℕ) (q : Request) (b : List ℕ) 
 unread : (m : ℕ) (s : State) (t : List ℕ) (q : Request) (b : List ℕ) → Unread m s t q b → decide m s t q b ≡ decide m s t q []
 unfolding decide
 unread m s t q b h =
-    ap₂ (λ (p : Places) (g : Grant). settle (verdict (needAll atRequest (sizes m t ++ p .request) ++ (p .tokens ++ (p .rest ++ (noncesLeft s t g ∷ []))))) s t g) (h .places) (h .grant)
+    ap₂ (λ (p : Places) (g : Grant). settle (verdict (needAll atRequest (sizes m t ++ p .request) ++ ((p .after ++ p .tokens) ++ (p .rest ++ (noncesLeft s t g ∷ []))))) s t g) (h .places) (h .grant)
 
 -- ---- one step
 
@@ -55,11 +55,11 @@ module _ (s : StateWords) (t m b : List ℕ) (r : Outcome) (t′ : List ℕ) whe
       turn s t m b q r t′ m b (h ∙ ap ruled (sym (unread (length m) (stateAs s) t q b (record { places = p; grant = g })))) (rw none refl) (rw none refl)
 
   -- a read or a fetch leaves memory
-  pub load-turn : (w : Way) (k u : ℕ) (b′ : List ℕ) → Loads w → handed r t′ ≡ rulingOn (length m) (stateAs s) t (access w k u) b
-      → b′ ≡ bufferAfter (effectOn (length m) (stateAs s) t (access w k u) b) m b
-      → Turned s t m b r t′ m b′ (access w k u)
-  load-turn w k u b′ l h f =
-      turn s t m b (access w k u) r t′ m b′ h (by-effect (λ (f : Effect). m ≡ memoryAfter f m) (length m) (stateAs s) t (access w k u) b refl (rw l refl)) f
+  pub load-turn : (w : Way) (k u : ℕ) (φ : Shift) (b′ : List ℕ) → Loads w → handed r t′ ≡ rulingOn (length m) (stateAs s) t (access w k u φ) b
+      → b′ ≡ bufferAfter (effectOn (length m) (stateAs s) t (access w k u φ) b) m b
+      → Turned s t m b r t′ m b′ (access w k u φ)
+  load-turn w k u φ b′ l h f =
+      turn s t m b (access w k u φ) r t′ m b′ h (by-effect (λ (f : Effect). m ≡ memoryAfter f m) (length m) (stateAs s) t (access w k u φ) b refl (rw l refl)) f
 
   -- a write and a revoke leave the buffer
   store-turn : (q : Request) (m′ : List ℕ) → b ≡ bufferAfter (grant (length m) t q b .effect) m b → handed r t′ ≡ rulingOn (length m) (stateAs s) t q b
@@ -68,10 +68,10 @@ module _ (s : StateWords) (t m b : List ℕ) (r : Outcome) (t′ : List ℕ) whe
   store-turn q m′ k h g =
       turn s t m b q r t′ m′ b h g (by-effect (λ (f : Effect). b ≡ bufferAfter f m b) (length m) (stateAs s) t q b refl k)
 
-  pub write-turn : (k u : ℕ) (m′ : List ℕ) → handed r t′ ≡ rulingOn (length m) (stateAs s) t (access writing k u) b
-      → m′ ≡ memoryAfter (effectOn (length m) (stateAs s) t (access writing k u) b) m
-      → Turned s t m b r t′ m′ b (access writing k u)
-  write-turn k u m′ h g = store-turn (access writing k u) m′ refl h g
+  pub write-turn : (k u : ℕ) (φ : Shift) (m′ : List ℕ) → handed r t′ ≡ rulingOn (length m) (stateAs s) t (access writing k u φ) b
+      → m′ ≡ memoryAfter (effectOn (length m) (stateAs s) t (access writing k u φ) b) m
+      → Turned s t m b r t′ m′ b (access writing k u φ)
+  write-turn k u φ m′ h g = store-turn (access writing k u φ) m′ refl h g
 
   pub revoke-turn : (k c : ℕ) (m′ : List ℕ) → handed r t′ ≡ rulingOn (length m) (stateAs s) t (revoke k c) []
       → m′ ≡ memoryAfter (effectOn (length m) (stateAs s) t (revoke k c) []) m

@@ -3,6 +3,7 @@
 use mathlib.Core.Path.{_≡_}
 use mathlib.Core.List.{List}
 use Prim.Native.Nat.{ℕ}
+use Rattle.checks.specs.Shifts.{shiftAs}
 use Rattle.machine.specs.Requests as request
 use Rattle.machine.specs.Steps.{Answer, Machine}
 use Rattle.table.specs.States.{stateAs}
@@ -15,27 +16,27 @@ use Rattle.operations.specs.declared.serve.Accessing.the-variants.{Other
 use Rattle.operations.specs.declared.serve.Request.{Request}
 use Rattle.operations.specs.declared.serve.Request.the-variants.{Clone, Create, Derive, Drop, Dump, ExecuteOnly, Fetch, Load, Lock, Merge, Read, Reset, Revoke, Unlock, Write}
 
--- the request in the machine's terms, and the call that brings a buffer with it
-abbrev pub requestAs : Request → request.Request
-requestAs (Reset k0 k1 ν) = request.reset k0 k1 ν
-requestAs (Read k u) = request.access request.reading k u
-requestAs (Write k u) = request.access request.writing k u
-requestAs (Fetch k u) = request.access request.fetching k u
-requestAs (Create k u l x p c) = request.create k u l x p c
-requestAs (Merge j k u c) = request.merge j k u c
-requestAs (Derive k o l p c) = request.derive k o l p c
-requestAs (ExecuteOnly k c) = request.executeOnly k c
-requestAs (Clone k) = request.clone k
-requestAs (Drop k) = request.release k
-requestAs (Lock k u) = request.lock k u
-requestAs (Unlock k u) = request.unlock k u
-requestAs (Revoke k c) = request.revoke k c
-requestAs (Load k u) = request.load k u
-requestAs (Dump k u) = request.dump k u
+-- the request in the machine's terms, with the leases that are lent with it, and the call that brings a buffer with it
+abbrev pub requestAs : Request → (leases : List ℕ) → request.Request
+requestAs (Reset k0 k1 ν) ls = request.reset k0 k1 ν
+requestAs (Read k u i) ls = request.access request.reading k u (shiftAs i ls)
+requestAs (Write k u i) ls = request.access request.writing k u (shiftAs i ls)
+requestAs (Fetch k u i) ls = request.access request.fetching k u (shiftAs i ls)
+requestAs (Create k u l x p c) ls = request.create k u l x p c
+requestAs (Merge j k u c) ls = request.merge j k u c
+requestAs (Derive k o l p c) ls = request.derive k o l p c
+requestAs (ExecuteOnly k c) ls = request.executeOnly k c
+requestAs (Clone k) ls = request.clone k
+requestAs (Drop k) ls = request.release k
+requestAs (Lock k u) ls = request.lock k u
+requestAs (Unlock k u) ls = request.unlock k u
+requestAs (Revoke k c) ls = request.revoke k c
+requestAs (Load k u i) ls = request.load k u (shiftAs i ls)
+requestAs (Dump k u i) ls = request.dump k u (shiftAs i ls)
 
 -- r tells the way of the request q, if it is an access
 abbrev pub Accesses : Accessing → Request → Type 0
-Accesses (Through w k u) q = requestAs q ≡ request.access (wayAs w) k u
+Accesses (Through w k u i) q = (ls : List ℕ) → requestAs q ls ≡ request.access (wayAs w) k u (shiftAs i ls)
 Accesses Other q = Unit
 
 abbrev pub callAs : request.Request → List ℕ → request.Call

@@ -10,7 +10,7 @@ ghost use Rattle.machine.specs.Steps.{answer, step};
 ghost use Rattle.operations.specs.Turns.{Accesses, after, answered, before, callAs, requestAs};
 
 // A request with all that it carries. An access has its bytes, a load and a dump their text, in the
-// buffer that is lent with it.
+// buffer that is lent with it, and all five their leases in a table of their own.
 pub enum Request {
     Reset {
         key0: u64,
@@ -20,14 +20,17 @@ pub enum Request {
     Read {
         token: u64,
         task: u64,
+        minute: u64,
     },
     Write {
         token: u64,
         task: u64,
+        minute: u64,
     },
     Fetch {
         token: u64,
         task: u64,
+        minute: u64,
     },
     Create {
         token: u64,
@@ -75,16 +78,23 @@ pub enum Request {
     Load {
         token: u64,
         task: u64,
+        minute: u64,
     },
     Dump {
         token: u64,
         task: u64,
+        minute: u64,
     },
 }
 
 // A request that is an access, with its way, or another one.
 pub enum Accessing {
-    Through { way: Way, token: u64, task: u64 },
+    Through {
+        way: Way,
+        token: u64,
+        task: u64,
+        minute: u64,
+    },
     Other,
 }
 
@@ -92,20 +102,35 @@ fn way_of(request: Request) -> Accessing
     ensures { λ r. ⌜ Accesses r request ⌝ }
 {
     match request {
-        Request::Read { token, task } => Accessing::Through {
+        Request::Read {
+            token,
+            task,
+            minute,
+        } => Accessing::Through {
             way: Way::Read,
             token,
             task,
+            minute,
         },
-        Request::Write { token, task } => Accessing::Through {
+        Request::Write {
+            token,
+            task,
+            minute,
+        } => Accessing::Through {
             way: Way::Write,
             token,
             task,
+            minute,
         },
-        Request::Fetch { token, task } => Accessing::Through {
+        Request::Fetch {
+            token,
+            task,
+            minute,
+        } => Accessing::Through {
             way: Way::Fetch,
             token,
             task,
+            minute,
         },
         _ => Accessing::Other,
     }
@@ -119,9 +144,10 @@ impl State {
         table: &mut [u8],
         memory: &mut [u8],
         buffer: &mut [u8],
+        leases: &[u8],
     ) -> Outcome
-        ensures { λ r. ⌜ after r (now (table .exit)) (now (memory .exit)) ≡ step (before (self .words) (now (table .entry)) (now (memory .entry))) (callAs (requestAs request) (now (buffer .entry))) ⌝ }
-        ensures { λ r. ⌜ answered r (now (buffer .exit)) ≡ answer (before (self .words) (now (table .entry)) (now (memory .entry))) (callAs (requestAs request) (now (buffer .entry))) ⌝ }
+        ensures { λ r. ⌜ after r (now (table .exit)) (now (memory .exit)) ≡ step (before (self .words) (now (table .entry)) (now (memory .entry))) (callAs (requestAs request (now (leases .entry))) (now (buffer .entry))) ⌝ }
+        ensures { λ r. ⌜ answered r (now (buffer .exit)) ≡ answer (before (self .words) (now (table .entry)) (now (memory .entry))) (callAs (requestAs request (now (leases .entry))) (now (buffer .entry))) ⌝ }
     {
         match request {
             Request::Reset {
@@ -129,9 +155,21 @@ impl State {
                 key1,
                 first_nonce,
             } => self.reset(table, memory, key0, key1, first_nonce),
-            Request::Read { token, task } => self.read(table, memory, buffer, token, task),
-            Request::Write { token, task } => self.write(table, memory, buffer, token, task),
-            Request::Fetch { token, task } => self.fetch(table, memory, buffer, token, task),
+            Request::Read {
+                token,
+                task,
+                minute,
+            } => self.read(table, memory, buffer, leases, token, task, minute),
+            Request::Write {
+                token,
+                task,
+                minute,
+            } => self.write(table, memory, buffer, leases, token, task, minute),
+            Request::Fetch {
+                token,
+                task,
+                minute,
+            } => self.fetch(table, memory, buffer, leases, token, task, minute),
             Request::Merge {
                 first,
                 second,
@@ -153,13 +191,21 @@ impl State {
             Request::Lock { token, task } => self.lock(table, memory, token, task),
             Request::Unlock { token, task } => self.unlock(table, memory, token, task),
             Request::Revoke { token, encoding } => self.revoke(table, memory, token, encoding),
-            Request::Load { token, task } => {
+            Request::Load {
+                token,
+                task,
+                minute,
+            } => {
                 let words = self.words;
-                serve_load(words, table, memory, buffer, token, task)
+                serve_load(words, table, memory, buffer, leases, token, task, minute)
             }
-            Request::Dump { token, task } => {
+            Request::Dump {
+                token,
+                task,
+                minute,
+            } => {
                 let words = self.words;
-                serve_dump(words, table, memory, buffer, token, task)
+                serve_dump(words, table, memory, buffer, leases, token, task, minute)
             }
             Request::Create {
                 token,
@@ -189,17 +235,33 @@ impl State {
         table: &mut [u8],
         memory: &mut [u8],
         buffer: &mut [u8],
+        leases: &[u8],
     ) -> Outcome
-        ensures { λ r. ⌜ after r (now (table .exit)) (now (memory .exit)) ≡ step (before (self .words) (now (table .entry)) (now (memory .entry))) (callAs (requestAs request) (now (buffer .entry))) ⌝ }
-        ensures { λ r. ⌜ answered r (now (buffer .exit)) ≡ answer (before (self .words) (now (table .entry)) (now (memory .entry))) (callAs (requestAs request) (now (buffer .entry))) ⌝ }
+        ensures { λ r. ⌜ after r (now (table .exit)) (now (memory .exit)) ≡ step (before (self .words) (now (table .entry)) (now (memory .entry))) (callAs (requestAs request (now (leases .entry))) (now (buffer .entry))) ⌝ }
+        ensures { λ r. ⌜ answered r (now (buffer .exit)) ≡ answer (before (self .words) (now (table .entry)) (now (memory .entry))) (callAs (requestAs request (now (leases .entry))) (now (buffer .entry))) ⌝ }
     {
         let a = way_of(request);
         match a {
-            Accessing::Through { way, token, task } => {
+            Accessing::Through {
+                way,
+                token,
+                task,
+                minute,
+            } => {
                 let words = self.words;
-                access(words, way, table, memory, buffer, token, task)
+                access(
+                    words,
+                    way,
+                    table,
+                    memory,
+                    buffer,
+                    leases,
+                    token,
+                    task,
+                    minute,
+                )
             }
-            Accessing::Other => self.operate(request, table, memory, buffer),
+            Accessing::Other => self.operate(request, table, memory, buffer, leases),
         }
     }
 }

@@ -8,13 +8,13 @@ use borrow.Author.Tests.{le-leb}
 use Rattle.checks.specs.Holds.{requestHolds}
 use Rattle.checks.specs.Refusals.{stopAs}
 use Rattle.checks.specs.declared.refusal.Refusal as code
-use Rattle.checks.proofs.VerdictLaws.{all-hold, all-pass, all-stop, all-true, andThen, first-passes, first-stops, parts-pass, verdict-append}
+use Rattle.checks.proofs.VerdictLaws.{all-hold, all-pass, all-stop, all-true, first-passes, first-stops, parts-pass}
 use Rattle.machine.specs.Operations.{book, Effect, grant, nothing}
 use Rattle.machine.specs.Parts.{spent, State}
 use Rattle.machine.specs.Requests.{Request}
 use Rattle.machine.specs.Steps.{decide, pass, settle, stop, Verdict, verdict}
 use Rattle.machine.specs.Stops.{atRequest, Check, checks, needAll, noncesLeft, Places, places, Refusal, sizes}
-use Rattle.machine.proofs.Decided.{AllTrue, needed, Passed, passed, passed-split}
+use Rattle.machine.proofs.Decided.{AllTrue, andThen, needed, Passed, passed, passed-split, verdict-append}
 use Rattle.table.specs.States.{stateAs}
 use Rattle.table.specs.declared.state.StateWords.{StateWords}
 use Rattle.rulings.specs.Rulings.{checkedAs, effectOn, firstOn, grantedEffect, granting, handed, refusing, restOn, ruled, Ruling, rulingOn, tokensOn, verdictOn}
@@ -31,45 +31,48 @@ module _ (m : ℕ) (s : State) (t : List ℕ) (q : Request) (b : List ℕ) where
   abbrev facts : List Bool
   facts = sizes m t ++ p .request
 
+  abbrev tokenChecks : List Check
+  tokenChecks = p .after ++ p .tokens
+
   abbrev left : List Check
   left = p .rest ++ (noncesLeft s t (grant m t q b) ∷ [])
 
   -- place 1 stops it
   pub request-stops : requestHolds m s t q b ≡ false → verdictOn m s t q b ≡ stop atRequest
   unfolding verdictOn requestHolds
-  request-stops h = first-stops (needAll atRequest facts) (p .tokens ++ left) (all-stop atRequest facts h)
+  request-stops h = first-stops (needAll atRequest facts) (tokenChecks ++ left) (all-stop atRequest facts h)
 
   module _ (ok : requestHolds m s t q b ≡ true) where
-    after : verdictOn m s t q b ≡ verdict (p .tokens ++ left)
+    after : verdictOn m s t q b ≡ verdict (tokenChecks ++ left)
     unfolding verdictOn requestHolds
-    after = first-passes (needAll atRequest facts) (p .tokens ++ left) (all-pass atRequest facts ok)
+    after = first-passes (needAll atRequest facts) (tokenChecks ++ left) (all-pass atRequest facts ok)
 
     -- a token stops it
     pub token-stops : {r : Refusal} → tokensOn m s t q b ≡ stop r → verdictOn m s t q b ≡ stop r
     unfolding tokensOn
-    token-stops h = after ∙ first-stops (p .tokens) left h
+    token-stops h = after ∙ first-stops tokenChecks left h
 
     -- or the rest decides
     pub token-passes : tokensOn m s t q b ≡ pass → verdictOn m s t q b ≡ restOn m s t q b
     unfolding tokensOn restOn
-    token-passes h = after ∙ first-passes (p .tokens) left h
+    token-passes h = after ∙ first-passes tokenChecks left h
 
   -- places 1 to 5 at once
-  in-order : verdictOn m s t q b ≡ verdict ((needAll atRequest facts ++ p .tokens) ++ left)
+  in-order : verdictOn m s t q b ≡ verdict ((needAll atRequest facts ++ tokenChecks) ++ left)
   unfolding verdictOn
-  in-order = ap verdict (sym (append-assoc (needAll atRequest facts) (p .tokens) left))
+  in-order = ap verdict (sym (append-assoc (needAll atRequest facts) tokenChecks left))
 
   pub first-stop : {r : Refusal} → firstOn m s t q b ≡ stop r → verdictOn m s t q b ≡ stop r
   unfolding firstOn
-  first-stop h = in-order ∙ first-stops (needAll atRequest facts ++ p .tokens) left h
+  first-stop h = in-order ∙ first-stops (needAll atRequest facts ++ tokenChecks) left h
 
   pub first-pass : firstOn m s t q b ≡ pass → verdictOn m s t q b ≡ restOn m s t q b
   unfolding firstOn restOn
-  first-pass h = in-order ∙ first-passes (needAll atRequest facts ++ p .tokens) left h
+  first-pass h = in-order ∙ first-passes (needAll atRequest facts ++ tokenChecks) left h
 
   pub first-request : firstOn m s t q b ≡ pass → requestHolds m s t q b ≡ true
   unfolding firstOn requestHolds
-  first-request h = all-hold facts (needed atRequest facts (passed (needAll atRequest facts) (parts-pass (needAll atRequest facts) (p .tokens) h .0)))
+  first-request h = all-hold facts (needed atRequest facts (passed (needAll atRequest facts) (parts-pass (needAll atRequest facts) tokenChecks h .0)))
 
   pub request-true : requestHolds m s t q b ≡ true → AllTrue (sizes m t ++ p .request)
   unfolding requestHolds
@@ -90,11 +93,11 @@ module _ (m : ℕ) (s : State) (t : List ℕ) (q : Request) (b : List ℕ) where
   passed-on h = passed (checks m s t q b) h
 
   pub pass-true : verdictOn m s t q b ≡ pass → AllTrue (sizes m t ++ p .request)
-  pass-true h = needed atRequest facts (passed-split (needAll atRequest facts) (p .tokens ++ left) (passed-on h) .0)
+  pass-true h = needed atRequest facts (passed-split (needAll atRequest facts) (tokenChecks ++ left) (passed-on h) .0)
 
   pub tokens-passed : verdictOn m s t q b ≡ pass → tokensOn m s t q b ≡ pass
   unfolding verdictOn tokensOn
-  tokens-passed h = parts-pass (p .tokens) left (parts-pass (needAll atRequest facts) (p .tokens ++ left) h .1) .0
+  tokens-passed h = parts-pass tokenChecks left (parts-pass (needAll atRequest facts) (tokenChecks ++ left) h .1) .0
 
   -- ---- what the code's checks come to
 

@@ -51,15 +51,15 @@ fillingSo s n = record { state = s; reply = Filled n }
 
 -- ---- verdicts
 
--- on a request; on its places 1 to 5; on its tokens, places 2 to 5, after a load's 12 and 13; and on what is left then, places 6 to 11 and 14
+-- on a request; on its places 1 to 5; on its tokens, places 2 to 5 with what 02 puts before and behind them; and on what is left then, places 6 to 11 and 14
 unfoldable pub verdictOn : ℕ → State → List ℕ → Request → List ℕ → Verdict
 verdictOn m s t q b = verdict (checks m s t q b)
 
 unfoldable pub firstOn : ℕ → State → List ℕ → Request → List ℕ → Verdict
-firstOn m s t q b = let p = places m s t q b in verdict (needAll atRequest (sizes m t ++ p .request) ++ p .tokens)
+firstOn m s t q b = let p = places m s t q b in verdict (needAll atRequest (sizes m t ++ p .request) ++ (p .after ++ p .tokens))
 
 unfoldable pub tokensOn : ℕ → State → List ℕ → Request → List ℕ → Verdict
-tokensOn m s t q b = verdict (places m s t q b .tokens)
+tokensOn m s t q b = let p = places m s t q b in verdict (p .after ++ p .tokens)
 
 unfoldable pub restOn : ℕ → State → List ℕ → Request → List ℕ → Verdict
 restOn m s t q b = verdict (places m s t q b .rest ++ (noncesLeft s t (grant m t q b) ∷ []))

@@ -28,12 +28,12 @@ fn shown(case: u64, r: Outcome) -> State {
 // A read of twelve bytes, and of one.
 fn read_twelve(s: State, table: &[u8], memory: &[u8], token: u64) -> Outcome {
     let mut buffer = [0u8; 12];
-    s.read(table, memory, &mut buffer, token, 0)
+    s.read(table, memory, &mut buffer, &table[..0], token, 0, 0)
 }
 
 fn read_one(s: State, table: &[u8], memory: &[u8], token: u64, task: u64) -> Outcome {
     let mut buffer = [0u8; 1];
-    s.read(table, memory, &mut buffer, token, task)
+    s.read(table, memory, &mut buffer, &table[..0], token, task, 0)
 }
 
 // The first token of an answer.

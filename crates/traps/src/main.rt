@@ -58,7 +58,7 @@ fn polled(s: State) -> State {
 
 fn read_one(s: State, table: &[u8], memory: &[u8], token: u64, task: u64) -> Outcome {
     let mut buffer = [0u8; 1];
-    s.read(table, memory, &mut buffer, token, task)
+    s.read(table, memory, &mut buffer, &table[..0], token, task, 0)
 }
 
 fn started(table: &mut [u8], memory: &[u8]) -> State {

@@ -3,10 +3,15 @@
 use mathlib.Core.Path.{refl}
 use Rattle.bits.specs.Bytes.{bytes, lowBytes, lowNumber, number}
 use Rattle.bits.specs.SipHash.{absorb, add64, compress, finish, padded, rotl, siphash, sipRound, word}
+use Rattle.hex.specs.Record.{byte, digit, malformed, verdict, wrongSum}
+use Rattle.hex.specs.Text.{lines, read, said}
+use Rattle.hex.specs.Written.{capital, dataRecords, lineOf, written}
 use Rattle.layout.specs.Entry.{directNumber, directOf, entryNumber, entryOf, indirectNumber, indirectOf}
 use Rattle.layout.specs.Form.{illFormed}
 use Rattle.layout.specs.Tag.{tagOf}
+use Rattle.leases.specs.Lease.{allSound, covers, firstLeases, isOpen, leaseAt, leasesOf}
 use Rattle.tokens.specs.Permissions.{within}
+use Rattle.machine.specs.Images.{piecesOf, spares}
 use Rattle.machine.specs.Issuing.{passOver, seek}
 use Rattle.machine.specs.Line.{walk}
 use Rattle.machine.specs.Operations.{climb}
@@ -16,5 +21,5 @@ use Rattle.machine.specs.Recordings.{limitsAbove, sessionsAbove}
 use Rattle.machine.specs.Steps.{answer, decide, step}
 
 pub sessions-above-agree : Recorded sessionsAbove limitsAbove
-unfolding bytes number lowBytes lowNumber directNumber directOf entryNumber entryOf indirectNumber indirectOf illFormed within absorb add64 compress finish padded rotl siphash sipRound word tagOf passOver seek walk climb at cleared put size decide step answer
+unfolding bytes number lowBytes lowNumber directNumber directOf entryNumber entryOf indirectNumber indirectOf illFormed allSound covers firstLeases isOpen leaseAt leasesOf within absorb add64 compress finish padded rotl siphash sipRound word tagOf passOver seek walk climb at cleared put size decide step answer byte digit malformed verdict wrongSum lines read said capital dataRecords lineOf written piecesOf spares
 sessions-above-agree = (refl, refl)

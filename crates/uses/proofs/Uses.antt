@@ -10,6 +10,7 @@ use lib.Seq.{getD-set-other}
 use Rattle.bits.specs.Bytes.{AllBytes, bytes, lowBytes, lowNumber, number}
 use Rattle.layout.specs.Entry.{directNumber, directOf, entryNumber, entryOf, indirectNumber, indirectOf}
 use Rattle.layout.specs.Form.{illFormed}
+use Rattle.leases.specs.Lease.{allSound, firstLeases, isOpen, leasesOf}
 use Rattle.tokens.specs.Permissions.{within}
 use Rattle.bits.specs.SipHash.{absorb, add64, compress, finish, padded, rotl, siphash, sipRound, word}
 use Rattle.layout.specs.Tag.{tagOf}
@@ -25,7 +26,7 @@ use Rattle.machine.specs.Unchanged.{HeldDrop, LockAgain}
 use Rattle.machine.specs.WholeDerive.{deriveCall, Parts, PassedOn, Whole}
 use Rattle.machine.specs.Writes.{Name, tokenFor}
 use Rattle.machine.specs.Parts.{at, cleared, put, size}
-use Rattle.machine.specs.Requests.{Call, reading}
+use Rattle.machine.specs.Requests.{Call, reading, noShift}
 use Rattle.machine.specs.Steps.{Answer, answer, decide, Machine, run, step}
 use Rattle.uses.specs.Uses.{before, changed, child, derives, drops, First, first, listOf, locks7, passes, Premises, read, readPassed, reset1, revokes, rootName, single}
 use Rattle.bits.proofs.ByteLists.{bytes-zeros}
@@ -52,7 +53,7 @@ closed-by σ f qs r a q b k p zs n =
 pub child-premises :
     Premises before (first 1 (derives ∷ reset1 0 ∷ locks7 ∷ [])) (read 0 8 ∷ []) (revokes 0) (reset1 1 ∷ []) derives (reset1 0 ∷ locks7 ∷ read 0 8 ∷ []) child
     × (List·Memᴰ child (issuedIn (step (run before (reset1 1 ∷ [])) derives) (reset1 0 ∷ locks7 ∷ read 0 8 ∷ revokes 0 ∷ [])) → ⊥)
-unfolding before bytes number lowBytes lowNumber directNumber directOf entryNumber entryOf indirectNumber indirectOf illFormed within absorb add64 compress finish padded rotl siphash sipRound word tagOf passOver seek walk at cleared put size decide step answer
+unfolding before bytes number lowBytes lowNumber directNumber directOf entryNumber entryOf indirectNumber indirectOf illFormed allSound firstLeases isOpen leasesOf within absorb add64 compress finish padded rotl siphash sipRound word tagOf passOver seek walk at cleared put size decide step answer
 child-premises = (
   record {
     accepted = refl;
@@ -99,7 +100,7 @@ pub holder-reads :
     let e : Entry = at (τ .table) 0 in
     Accepted before (reset1 1) × LockedFor τ 0 7 × Alike e τ (changed τ 3 5)
     × (Secret before (listOf (first 1 (locks7 ∷ []))) 0 e τ (changed τ 3 5) (read 3 7 ∷ []) → ⊥)
-unfolding before firstByte bytes number lowBytes lowNumber directNumber directOf entryNumber entryOf indirectNumber indirectOf illFormed within absorb add64 compress finish padded rotl siphash sipRound word tagOf passOver seek walk at cleared put size decide step answer
+unfolding before firstByte bytes number lowBytes lowNumber directNumber directOf entryNumber entryOf indirectNumber indirectOf illFormed allSound firstLeases isOpen leasesOf within absorb add64 compress finish padded rotl siphash sipRound word tagOf passOver seek walk at cleared put size decide step answer
 holder-reads =
     let τ : Machine = run before (listOf (first 1 (locks7 ∷ []))) in
     (refl, record { direct = refl; locked = refl; held = refl }, one-byte (at (τ .table) 0) τ 3 5 (omega arith, omega arith), λ s. let z : _≡_ {A = ℕ} 9 5 = ap firstByte (s .same) in omega arith)
@@ -116,7 +117,7 @@ pub opens-again :
     × (answer (step τ r) (read 0 0) .reply .refusal ≡ 2)
     × List·Memᴰ rootName (issuedIn (step before (reset1 87419)) (locks7 ∷ r ∷ z ∷ []))
     × (Closed (run (step τ r) (z ∷ [])) rootName → ⊥)
-unfolding before bytes number lowBytes lowNumber directNumber directOf entryNumber entryOf indirectNumber indirectOf illFormed within absorb add64 compress finish padded rotl siphash sipRound word tagOf passOver seek walk at cleared put size decide step answer
+unfolding before bytes number lowBytes lowNumber directNumber directOf entryNumber entryOf indirectNumber indirectOf illFormed allSound firstLeases isOpen leasesOf within absorb add64 compress finish padded rotl siphash sipRound word tagOf passOver seek walk at cleared put size decide step answer
 opens-again = (
   record {
     accepted = refl;
@@ -131,7 +132,7 @@ opens-again = (
   },
   refl,
   List·Memᴰ·tail (List·Memᴰ·head refl),
-  λ c. c reading 0 0 (0 ∷ []) refl refl refl,
+  λ c. c reading 0 0 noShift (0 ∷ []) refl refl refl,
 )
 
 -- ---- what changes nothing: a lock by the holder again, and a drop at 1 under a lock
@@ -152,13 +153,13 @@ bytes-left =
 pub locked-again :
     let τ : Machine = run before (reset1 1 ∷ derives ∷ locks7 ∷ []) in
     step τ locks7 ≡ τ
-unfolding LockAgain before bytes number lowBytes lowNumber directNumber directOf entryNumber entryOf indirectNumber indirectOf illFormed within absorb add64 compress finish padded rotl siphash sipRound word tagOf passOver seek walk at cleared put size decide step answer
+unfolding LockAgain before bytes number lowBytes lowNumber directNumber directOf entryNumber entryOf indirectNumber indirectOf illFormed allSound firstLeases isOpen leasesOf within absorb add64 compress finish padded rotl siphash sipRound word tagOf passOver seek walk at cleared put size decide step answer
 locked-again = lock-again (run before (reset1 1 ∷ derives ∷ locks7 ∷ [])) 0 7 [] bytes-left refl refl
 
 pub dropped-under-lock :
     let τ : Machine = run before (reset1 1 ∷ derives ∷ locks7 ∷ []) in
     (step τ drops ≡ τ) × (answer τ drops .reply .dropped ≡ 0)
-unfolding HeldDrop before bytes number lowBytes lowNumber directNumber directOf entryNumber entryOf indirectNumber indirectOf illFormed within absorb add64 compress finish padded rotl siphash sipRound word tagOf passOver seek walk at cleared put size decide step answer
+unfolding HeldDrop before bytes number lowBytes lowNumber directNumber directOf entryNumber entryOf indirectNumber indirectOf illFormed allSound firstLeases isOpen leasesOf within absorb add64 compress finish padded rotl siphash sipRound word tagOf passOver seek walk at cleared put size decide step answer
 dropped-under-lock = held-drop (run before (reset1 1 ∷ derives ∷ locks7 ∷ [])) (tokenFor 0 child) [] refl refl
 
 -- ---- how far a walk and a climb go: the child's line and its drop meet every entry of a table of two
@@ -166,27 +167,27 @@ dropped-under-lock = held-drop (run before (reset1 1 ∷ derives ∷ locks7 ∷ 
 pub all-met :
     let t : List ℕ = run before (reset1 1 ∷ derives ∷ []) .table in
     Bounded 8 t 1 × (lineMeets 8 t 1 ≡ 1 ∷ 0 ∷ []) × (dropMeets t 1 ≡ 1 ∷ 0 ∷ []) × (size t ≡ 2)
-unfolding Depth walkMeets climbMeets before bytes number lowBytes lowNumber directNumber directOf entryNumber entryOf indirectNumber indirectOf illFormed within absorb add64 compress finish padded rotl siphash sipRound word tagOf passOver seek walk at cleared put size decide step answer
+unfolding Depth walkMeets climbMeets before bytes number lowBytes lowNumber directNumber directOf entryNumber entryOf indirectNumber indirectOf illFormed allSound firstLeases isOpen leasesOf within absorb add64 compress finish padded rotl siphash sipRound word tagOf passOver seek walk at cleared put size decide step answer
 all-met = (depth 8 (run before (reset1 1 ∷ derives ∷ []) .table) 1 (omega arith), refl, refl, refl)
 
 -- ---- a buffer passed on whole: the root of 8 bytes, and a root of one byte
 
 -- as bytes 2 to 4 may be passed on, so may the last one alone
 pub last-passed : Accepted (step before (reset1 1)) (deriveCall 0 7 1 4 0 [])
-unfolding Parts before bytes number lowBytes lowNumber directNumber directOf entryNumber entryOf indirectNumber indirectOf illFormed within absorb add64 compress finish padded rotl siphash sipRound word tagOf passOver seek walk at cleared put size decide step answer
+unfolding Parts before bytes number lowBytes lowNumber directNumber directOf entryNumber entryOf indirectNumber indirectOf illFormed allSound firstLeases isOpen leasesOf within absorb add64 compress finish padded rotl siphash sipRound word tagOf passOver seek walk at cleared put size decide step answer
 last-passed = parts (step before (reset1 1)) 0 2 3 4 0 [] refl 7 1 (λ z. omega arith) (omega arith)
 
 pub whole-passed-on : PassedOn (step before (reset1 1)) 0 4 (passes 8)
-unfolding FromReset Whole before bytes number lowBytes lowNumber directNumber directOf entryNumber entryOf indirectNumber indirectOf illFormed within absorb add64 compress finish padded rotl siphash sipRound word tagOf passOver seek walk at cleared put size decide step answer
+unfolding FromReset Whole before bytes number lowBytes lowNumber directNumber directOf entryNumber entryOf indirectNumber indirectOf illFormed allSound firstLeases isOpen leasesOf within absorb add64 compress finish padded rotl siphash sipRound word tagOf passOver seek walk at cleared put size decide step answer
 whole-passed-on = whole-passed (step before (reset1 1)) (from-reset before 0 0 1 [] refl [] tt) 0 4 0 [] refl
 
 -- its last byte is read through what was given, and none beyond
 pub last-read :
     let τ : Machine = step (step before (reset1 1)) (passes 8) in
     (answer τ (readPassed 7) .buffer ≡ 9 ∷ []) × (answer τ (readPassed 8) .reply .refusal ≡ 8)
-unfolding before bytes number lowBytes lowNumber directNumber directOf entryNumber entryOf indirectNumber indirectOf illFormed within absorb add64 compress finish padded rotl siphash sipRound word tagOf passOver seek walk at cleared put size decide step answer
+unfolding before bytes number lowBytes lowNumber directNumber directOf entryNumber entryOf indirectNumber indirectOf illFormed allSound firstLeases isOpen leasesOf within absorb add64 compress finish padded rotl siphash sipRound word tagOf passOver seek walk at cleared put size decide step answer
 last-read = (refl, refl)
 
 pub one-byte-passed-on : PassedOn (step single (reset1 1)) 0 4 (passes 1)
-unfolding FromReset Whole single bytes number lowBytes lowNumber directNumber directOf entryNumber entryOf indirectNumber indirectOf illFormed within absorb add64 compress finish padded rotl siphash sipRound word tagOf passOver seek walk at cleared put size decide step answer
+unfolding FromReset Whole single bytes number lowBytes lowNumber directNumber directOf entryNumber entryOf indirectNumber indirectOf illFormed allSound firstLeases isOpen leasesOf within absorb add64 compress finish padded rotl siphash sipRound word tagOf passOver seek walk at cleared put size decide step answer
 one-byte-passed-on = whole-passed (step single (reset1 1)) (from-reset single 0 0 1 [] refl [] tt) 0 4 0 [] refl

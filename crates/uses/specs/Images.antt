@@ -4,7 +4,7 @@ use mathlib.Core.List.{[], _∷_}
 use Prim.Native.Nat.{ℕ}
 use lib.ListN.{replicate}
 use Rattle.machine.specs.LoadImages.{dumpCall, loadCall, textIn}
-use Rattle.machine.specs.Requests.{Call}
+use Rattle.machine.specs.Requests.{Call, noShift}
 use Rattle.machine.specs.Steps.{answer, Machine, step}
 use Rattle.uses.specs.Uses.{before, reset1}
 
@@ -21,8 +21,8 @@ to = step before (reset1 1)
 
 -- the root is dumped, by any task, to a buffer that its text fills
 abbrev pub dumps : (task : ℕ) → Call
-dumps u = dumpCall 0 u (replicate 56 0)
+dumps u = dumpCall 0 u noShift (replicate 56 0)
 
 -- what was dumped is loaded
 abbrev pub loads : Call
-loads = loadCall 0 0 (textIn (answer from (dumps 0)))
+loads = loadCall 0 0 noShift (textIn (answer from (dumps 0)))

@@ -1,3 +1,4 @@
 pub mod Images
+pub mod Shifts
 pub mod Totals
 pub mod Uses

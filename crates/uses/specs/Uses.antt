@@ -7,7 +7,7 @@ use lib.ListN.{replicate, set}
 use Rattle.machine.specs.Demand3.{Accepted, FirstRevoke, LockedFor, NoneCarries, NoReset, resetCall, Under, Unreset}
 use Rattle.machine.specs.Writes.{Name, tokenFor}
 use Rattle.machine.specs.Parts.{at}
-use Rattle.machine.specs.Requests.{access, Call, derive, lock, reading, release, revoke}
+use Rattle.machine.specs.Requests.{access, Call, derive, lock, noShift, reading, release, revoke}
 use Rattle.machine.specs.Session.{plain}
 use Rattle.machine.specs.Steps.{decision, Machine, run, step}
 use Rattle.machine.specs.WholeDerive.{accessCall, deriveCall}
@@ -71,7 +71,7 @@ revokes k = plain (revoke k 0)
 
 -- one byte at an offset of the root, through that token
 abbrev pub read : (offset task : ℕ) → Call
-read o u = record { request = access reading o u; buffer = 0 ∷ [] }
+read o u = record { request = access reading o u noShift; buffer = 0 ∷ [] }
 
 abbrev pub reset1 : (firstNonce : ℕ) → Call
 reset1 ν = resetCall 0 0 ν []
@@ -100,4 +100,4 @@ passed = record { number = 1; tag = 59639 }
 
 -- one byte at an offset, through it
 abbrev pub readPassed : (offset : ℕ) → Call
-readPassed o = accessCall reading (tokenFor 0 passed + o) 0 (0 ∷ [])
+readPassed o = accessCall reading (tokenFor 0 passed + o) 0 noShift (0 ∷ [])

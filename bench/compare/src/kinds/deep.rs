@@ -15,7 +15,7 @@ pub fn play(player: &mut Player) {
     };
     let count = player.dice.one_of(&[1, 1, 2]);
     let mut world = worlds::line(player, entries, 64, count);
-    if player.dice.once_in(2) {
+    if player.dice.once_in(3) {
         let number = player.dice.index(entries);
         let bit = player.dice.index(8 * entry::SIZE);
         world.table[entry::SIZE * number + bit / 8] ^= 0x80 >> (bit % 8);

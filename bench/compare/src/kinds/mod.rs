@@ -20,6 +20,7 @@ mod revived;
 mod revokes;
 mod round;
 mod rubbish;
+mod shifts;
 mod sizes;
 mod sums;
 mod tables;
@@ -59,6 +60,12 @@ pub const ALL: &[Kind] = &[
     kind("nonces", 60, nonces::play, "the last nonces, and those outside the limits"),
     kind("tasks", 30, tasks::play, "tasks around 2^55, as holder and as asker"),
     kind("totals", 120, totals::play, "free totals at their ends, wrong ones, and those above"),
+    kind(
+        "shifts",
+        120,
+        shifts::play,
+        "leases at their ends, others' and bad ones, and each refusal",
+    ),
     kind("whole", 60, whole::play, "create of a whole segment, of the root's, and what is after"),
     kind("sums", 60, sums::play, "lengths and offsets whose sums lie at or beyond a limit"),
     kind("encodings", 60, encodings::play, "each token in all encodings, one bit off, with offset"),
@@ -77,7 +84,7 @@ pub const ALL: &[Kind] = &[
     kind("passed", 3, passed::play, "a revoke that passes over one nonce or two, also the last"),
     kind("revived", 3, revived::play, "a freed number again with its old tag, under a live child"),
     kind("rest", 3, rest::play, "a root's rest with tag 0, so that token 0 keeps working"),
-    kind("deep", 4, deep::play, "handed-over lines as deep as the table, up to 1,023 links"),
+    kind("deep", 12, deep::play, "handed-over lines as deep as the table, up to 1,023 links"),
     kind("derived", 1, deep::derived, "a line derived link by link over the whole table"),
     kind("large", 1, large::play, "16 MiB of memory, 1,024 entries, and memories one byte off"),
 ];

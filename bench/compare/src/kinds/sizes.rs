@@ -15,7 +15,7 @@ const MEMORIES: [usize; 8] = [0, 1, 1, 2, 3, 4_095, 4_096, 4_097];
 const BUFFERS: [usize; 8] = [0, 1, 2, 4_095, 4_096, 4_097, 5_000, 8_192];
 
 pub fn play(player: &mut Player) {
-    let table = match player.dice.below(8) {
+    let table = match player.dice.below(5) {
         0 => 32_800,
         _ => player.dice.one_of(&TABLES),
     };

@@ -3,11 +3,10 @@
 
 use bridge::{Operation, Reply, Words};
 use session::entry::{self, Entry, SIZE};
-use session::World;
+use session::{Step, World};
 
-use crate::limits::SPENT;
 use crate::player::Player;
-use crate::{free, wild, worlds};
+use crate::{free, leases, standings, wild, worlds};
 
 /// The bytes of each segment.
 const LENGTH: u64 = 8;
@@ -15,9 +14,6 @@ const LENGTH: u64 = 8;
 /// How many segments stand in a row, and how many entries with the line below the last of them.
 const SEGMENTS: usize = 4;
 const USED: usize = 7;
-
-/// Who holds a lock.
-const HOLDER: u64 = 7;
 
 pub fn play(player: &mut Player) {
     for _ in 0..3 {
@@ -101,7 +97,7 @@ fn join(player: &mut Player, number: usize) -> Reply {
 /// One request for each place at which one stops, with a total above its top and with one inside; and
 /// a reset, which judges none.
 fn above(player: &mut Player) {
-    let mut world = full(player);
+    let mut world = standings::world(player);
     let totals = worlds::totals_above(&world.table);
     for total in totals {
         world.state.total = total;
@@ -117,50 +113,21 @@ fn above(player: &mut Player) {
     each_stop(player);
 }
 
-/// A full table with entries of every standing, and no nonce left.
-fn full(player: &mut Player) -> World {
-    let mut world = World::zeros(8 * SIZE, 4 * LENGTH as usize);
-    let numbered =
-        |entry: Entry, number: u64| entry.with(entry::TAG, number).with(entry::NONCE, number);
-    let below = |parent: Entry, number: usize| {
-        Entry::indirect(0, LENGTH, parent.token(number, 1)).with_count(1)
-    };
-    let part = |place: u64| Entry::direct(LENGTH * place, LENGTH);
-    let root = Entry::direct(0, 4 * LENGTH);
-    let ill_formed = numbered(part(3).with_length(0), 3);
-    let dead = numbered(below(root.with(entry::TAG, 99), 0), 5);
-    let entries = [
-        root,
-        numbered(part(1).locked_for(HOLDER), 1),
-        numbered(part(2).with(entry::PERMISSIONS, 4), 2),
-        ill_formed,
-        numbered(below(ill_formed, 3), 4),
-        dead,
-        numbered(below(dead, 5), 6),
-        numbered(below(root, 0), 7),
-    ];
-    for (number, entry) in entries.iter().enumerate() {
-        entry.store(&mut world.table, number);
-    }
-    world.state = worlds::handed(player, &world.table, 0, SPENT);
-    world
-}
-
 /// The refusals in their order, over such a table; nothing changes.
 fn each_stop(player: &mut Player) {
     player.read(0, 1, 0);
     player.simple(Operation::Clone, 1);
-    let stale = player.token(1) ^ 1 << 50;
+    let stale = player.token(standings::LOCKED) ^ 1 << 50;
     player.read(stale, 1, 0);
-    for number in [3, 4, 5, 6, 1] {
+    for number in standings::REFUSED {
         let token = player.token(number);
         player.read(token, 1, 0);
     }
-    let child = player.token(7);
+    let child = player.token(standings::CHILD);
     player.create(child, 1, 0);
-    let readable = player.token(2);
+    let readable = player.token(standings::READABLE);
     player.write(readable, 1, 0);
-    player.read(4 * LENGTH, 1, 0);
+    player.read(standings::LENGTH, 1, 0);
     player.simple(Operation::Drop, 0);
     player.derive(0, 0, 1, 0);
     player.simple(Operation::Revoke, 0);
@@ -169,5 +136,9 @@ fn each_stop(player: &mut Player) {
     {
         let words = Words { operation: operation as u64, ..Words::default() };
         player.ask_with(words, buffer.to_vec());
+    }
+    for leases in [leases::closed(0), leases::bad()] {
+        let request = Words { operation: Operation::Read as u64, ..Words::default() };
+        player.ask_lent(Step { request, buffer: vec![0], leases });
     }
 }

@@ -2,6 +2,7 @@
 //! it if it still shows a difference; the order is fixed, so that the same session always shrinks to
 //! the same one. What is taken was shown by a machine that remembers no session before it.
 
+mod leases;
 mod requests;
 mod shrinker;
 mod simpler;
@@ -42,6 +43,7 @@ impl Shrinker<'_> {
         self.zero_table();
         self.zero_memory();
         self.leave_out_requests();
+        self.simpler_leases();
         self.simpler_words();
         self.smaller_buffers();
         self.leave_out_links();

@@ -200,6 +200,7 @@ impl Shrinker<'_> {
         for part in &mut draft.parts {
             part.request.token = rename(part.request.token);
             part.request.second = rename(part.request.second);
+            part.leases.iter_mut().for_each(|held| held.token = rename(held.token));
         }
         self.take(draft);
     }
@@ -210,7 +211,8 @@ fn after(draft: &Draft, request: Words) -> Draft {
     let mut draft = draft.clone();
     let name = draft.parts.iter().map(|part| part.name + 1).max().unwrap_or(0);
     let (token, second) = (Source::Word, Source::Word);
-    draft.parts.insert(0, Part { name, request, buffer: Vec::new(), token, second });
+    let (buffer, leases, rest) = (Vec::new(), Vec::new(), Vec::new());
+    draft.parts.insert(0, Part { name, request, buffer, token, second, leases, rest });
     draft.world = World::zeros(draft.world.table.len(), draft.world.memory.len());
     draft
 }

@@ -1,7 +1,7 @@
 //! What a copy of the model has besides: its function for C, by which the test asks it.
 
 use std::panic::{catch_unwind, AssertUnwindSafe};
-use std::slice::from_raw_parts_mut;
+use std::slice::{from_raw_parts, from_raw_parts_mut};
 
 use crate::{serve, Answer, Request, State};
 
@@ -13,22 +13,24 @@ pub struct Lent {
 }
 
 /// Serves a request, its words, the state's and the answer's in the order of the interface, over
-/// table, memory and buffer; false if it came to no answer.
+/// table, memory, buffer and leases; false if it came to no answer.
 ///
 /// # Safety
 ///
-/// The three parts are lent for the call, and none overlaps another.
+/// The four parts are lent for the call, and none overlaps another; the leases are only read.
 #[no_mangle]
 pub unsafe extern "C" fn serve_loaded(
     words: &[u64; 8],
     state: &mut [u64; 5],
-    parts: &[Lent; 3],
+    parts: &[Lent; 4],
     answer: &mut [u64; 6],
 ) -> bool {
     let [table, memory, buffer] =
-        parts.each_ref().map(|part| from_raw_parts_mut(part.start, part.length));
+        [0, 1, 2].map(|at: usize| from_raw_parts_mut(parts[at].start, parts[at].length));
+    let leases = from_raw_parts(parts[3].start, parts[3].length);
     let mut kept = state_of(*state);
-    let served = || serve(request_of(*words), &mut kept, &mut *table, &mut *memory, &mut *buffer);
+    let served =
+        || serve(request_of(*words), &mut kept, &mut *table, &mut *memory, &mut *buffer, leases);
     let Ok(told) = catch_unwind(AssertUnwindSafe(served)) else {
         return false;
     };

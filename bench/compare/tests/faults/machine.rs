@@ -5,13 +5,13 @@ use std::mem::transmute;
 use std::os::unix::ffi::OsStrExt;
 use std::path::Path;
 
-use bridge::{Reply, State, Words};
+use bridge::{Lent, Reply, State, Words};
 use compare::{Machine, Trouble};
 use session::World;
 
 /// Bytes that are lent, as `loaded` has them.
 #[repr(C)]
-struct Lent {
+struct Part {
     start: *mut u8,
     length: usize,
 }
@@ -20,7 +20,7 @@ struct Lent {
 type Serve = unsafe extern "C" fn(
     &[u64; Words::COUNT],
     &mut [u64; State::WORDS],
-    &[Lent; 3],
+    &[Part; 4],
     &mut [u64; Reply::WORDS],
 ) -> bool;
 
@@ -56,12 +56,14 @@ impl Machine for Loaded {
         Ok(())
     }
 
-    fn serve(&mut self, request: &Words, buffer: &mut [u8]) -> Result<Reply, Trouble> {
+    fn serve(&mut self, request: &Words, lent: Lent) -> Result<Reply, Trouble> {
+        let Lent { buffer, leases } = lent;
         let World { state, table, memory } = &mut self.world;
         let (words, mut kept, mut answer) =
             (request.in_order(), state.in_order(), [0; Reply::WORDS]);
-        let parts = [lent(table), lent(memory), lent(buffer)];
-        // Three slices of their own are lent for the call.
+        let leases = Part { start: leases.as_ptr().cast_mut(), length: leases.len() };
+        let parts = [part(table), part(memory), part(buffer), leases];
+        // Three slices of their own are lent for the call, and one that is only read.
         let answered = unsafe { (self.serve)(&words, &mut kept, &parts, &mut answer) };
         *state = State::from_order(kept);
         let panicked = || Trouble::Broken("the faulty model panicked".to_string());
@@ -81,8 +83,8 @@ impl Machine for Loaded {
     }
 }
 
-fn lent(bytes: &mut [u8]) -> Lent {
-    Lent { start: bytes.as_mut_ptr(), length: bytes.len() }
+fn part(bytes: &mut [u8]) -> Part {
+    Part { start: bytes.as_mut_ptr(), length: bytes.len() }
 }
 
 /// All names of a library are looked up when it is loaded.

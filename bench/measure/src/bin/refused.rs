@@ -20,6 +20,22 @@ pub fn counted_call(
     std::hint::black_box(refusal)
 }
 
+/// The same with leases.
+#[no_mangle]
+#[inline(never)]
+pub fn counted_leased_call(
+    request: &[u8],
+    state: &mut [u8],
+    table: &mut [u8],
+    memory: &mut [u8],
+    buffer: &mut [u8],
+    answer: &mut [u8],
+    leases: &[u8],
+) -> u64 {
+    let refusal = bridge::call_leased(request, state, table, memory, buffer, answer, leases);
+    std::hint::black_box(refusal)
+}
+
 fn main() -> ExitCode {
     let byte: fn(usize) -> u8 = match env::args().nth(1).as_deref() {
         Some("zeros") => |_| 0,
@@ -30,7 +46,7 @@ fn main() -> ExitCode {
         }
     };
     for one in measure::refused() {
-        let refusal = one.ask(counted_call, byte);
+        let refusal = one.ask(counted_call, counted_leased_call, byte);
         println!("{} {} {}", one.operation(), refusal, one.standing);
     }
     ExitCode::SUCCESS

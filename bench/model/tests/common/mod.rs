@@ -9,6 +9,9 @@ pub struct Rig {
     pub state: State,
     pub table: Vec<u8>,
     pub memory: Vec<u8>,
+    pub leases: Vec<u8>,
+    /// The minute that each access brings.
+    pub minute: u64,
 }
 
 pub const SPENT: u64 = 1 << 32;
@@ -16,7 +19,7 @@ pub const SPENT: u64 = 1 << 32;
 impl Rig {
     pub fn bare(memory: usize, entries: usize) -> Rig {
         let (table, memory) = (vec![0; 32 * entries], vec![0; memory]);
-        Rig { state: State::default(), table, memory }
+        Rig { state: State::default(), table, memory, leases: Vec::new(), minute: 0 }
     }
 
     /// After a granted reset with key 0 and first nonce 1.
@@ -27,12 +30,14 @@ impl Rig {
     }
 
     /// Serves one request, and sees to it that a refusal changes nothing and
-    /// carries neither token nor number, that only a dump tells a length, and
-    /// that the total is corrected by what the table shows.
+    /// carries neither token nor number, that only a dump tells a length, that
+    /// leases stop accesses only, and that the total is corrected by what the
+    /// table shows.
     pub fn ask_with(&mut self, request: Request, buffer: &mut [u8]) -> Answer {
         let before = (self.clone(), buffer.to_vec());
-        let answer = serve(request, &mut self.state, &mut self.table, &mut self.memory, buffer);
-        assert!(answer.refusal <= 14);
+        let Rig { state, table, memory, leases, .. } = self;
+        let answer = serve(request, state, table, memory, buffer, leases);
+        assert!(answer.refusal <= if is_access(request.operation) { 16 } else { 14 });
         if answer.refusal != 0 {
             assert_eq!(before, (self.clone(), buffer.to_vec()));
             assert_eq!((answer.first, answer.second, answer.dropped), (0, 0, 0));
@@ -61,12 +66,15 @@ impl Rig {
 
     pub fn access(&mut self, operation: u64, token: u64, length: usize, task: u64) -> u64 {
         let mut buffer = vec![0xB5; length];
-        self.ask_with(Request { operation, token, task, ..Request::default() }, &mut buffer).refusal
+        let second = self.minute;
+        let request = Request { operation, token, second, task, ..Request::default() };
+        self.ask_with(request, &mut buffer).refusal
     }
 
     pub fn read(&mut self, token: u64, length: usize, task: u64) -> Result<Vec<u8>, u64> {
         let mut buffer = vec![0; length];
-        let request = Request { operation: READ, token, task, ..Request::default() };
+        let request =
+            Request { operation: READ, token, second: self.minute, task, ..Request::default() };
         match self.ask_with(request, &mut buffer).refusal {
             0 => Ok(buffer),
             refusal => Err(refusal),
@@ -74,7 +82,8 @@ impl Rig {
     }
 
     pub fn write(&mut self, token: u64, bytes: &[u8], task: u64) -> u64 {
-        let request = Request { operation: WRITE, token, task, ..Request::default() };
+        let request =
+            Request { operation: WRITE, token, second: self.minute, task, ..Request::default() };
         self.ask_with(request, &mut bytes.to_vec()).refusal
     }
 
@@ -113,7 +122,8 @@ impl Rig {
 
     pub fn load(&mut self, token: u64, text: &[u8], task: u64) -> u64 {
         let mut buffer = text.to_vec();
-        let request = Request { operation: LOAD, token, task, ..Request::default() };
+        let request =
+            Request { operation: LOAD, token, second: self.minute, task, ..Request::default() };
         let refusal = self.ask_with(request, &mut buffer).refusal;
         assert_eq!(buffer, text);
         refusal
@@ -122,7 +132,8 @@ impl Rig {
     /// The text in a buffer of this length, whose other bytes stay.
     pub fn dump(&mut self, token: u64, room: usize, task: u64) -> Result<Vec<u8>, u64> {
         let mut buffer = vec![0xB5; room];
-        let request = Request { operation: DUMP, token, task, ..Request::default() };
+        let request =
+            Request { operation: DUMP, token, second: self.minute, task, ..Request::default() };
         let answer = self.ask_with(request, &mut buffer);
         if answer.refusal != 0 {
             return Err(answer.refusal);
@@ -232,6 +243,17 @@ impl Rig {
     pub fn token(&self, number: usize) -> u64 {
         self.tag(number) << 46 | (number as u64) << 32
     }
+}
+
+/// 02, paper 4: "Loads and dumps count as accesses."
+pub fn is_access(operation: u64) -> bool {
+    [READ, WRITE, FETCH, LOAD, DUMP].contains(&operation)
+}
+
+/// The eight bytes of a lease on a token in encoding 0.
+pub fn lease(token: u64, opening: u16, closing: u16) -> Vec<u8> {
+    let fields = [(token >> 32 & 0x3FFF) as u16, (token >> 46) as u16, opening, closing];
+    fields.map(u16::to_le_bytes).concat()
 }
 
 /// A record of Intel HEX with its checksum.

@@ -19,11 +19,11 @@ nb serve
 
 Answers each line on the standard input by one line on the standard output, until the input ends:
 
-    northbridge 3                                   northbridge 3
+    northbridge 4                                   northbridge 4
     world TABLE MEMORY KEY0 KEY1 LAST NEXT TOTAL    ok
     table AT BYTES                                  ok
     memory AT BYTES                                 ok
-    serve WORD0 .. WORD7 BUFFER                     answer REFUSAL PLACE FIRST SECOND DROPPED LENGTH
+    serve WORD0 .. WORD7 BUFFER LEASES              answer REFUSAL PLACE FIRST SECOND DROPPED LENGTH
                                                            KEY0 KEY1 LAST NEXT TOTAL BUFFER
     show-table AT LENGTH                            bytes BYTES
     show-memory AT LENGTH                           bytes BYTES
@@ -31,8 +31,9 @@ Answers each line on the standard input by one line on the standard output, unti
 
 Numbers are hexadecimal without a prefix, bytes two digits each, and - stands for no bytes. 'world'
 gives a table and a memory of so many zero bytes, and a state; 'table' and 'memory' put bytes into
-them; 'serve' gives a request's eight words and its buffer. No line holds more than 8192 bytes, but
-for a buffer, which has at most 69632; so none has more than 139520 characters.
+them; 'serve' gives a request's eight words, its buffer and its leases. No line holds more than 8192
+bytes, but for a buffer, which has at most 69632, with leases of at most 1024 behind it; so none has
+more than 141568 characters.
 
 For example:
 

@@ -17,8 +17,9 @@ pub const COMMAND: Command = Command {
 const HELP: &str = "\
 nb stack
 
-Runs the shallowest call, a read through 1,023 links and a drop that climbs 1,023 links on a stack
-that was painted before, and tells how many bytes of it each needed. A test holds them to a bound.
+Runs the shallowest call, a read through 1,023 links, with leases and without, a drop that climbs 1,023
+links, a load and a dump on a stack that was painted before, and tells how many bytes of it each
+needed. A test holds them to a bound.
 
 For example:
 

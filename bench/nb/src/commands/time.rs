@@ -18,10 +18,10 @@ pub const COMMAND: Command = Command {
 const HELP: &str = "\
 nb time [--rounds N] [--markdown]
 
-Measures each operation, accesses of 1 to 4,096 bytes through lines of several depths, and loads and
-dumps of 16 to 23,000 bytes: the proved code, the model, and the limit (memcpy of the same bytes for an
-access, of the text for a load and a dump, memset for a revoke and a reset, SipHash over 40 bytes for
-an issue), by turns in one run. Shown are medians in nanoseconds, and ratios within a round with their
+Measures each operation, accesses of 1 to 4,096 bytes through lines of several depths, reads under 0
+to 64 leases, and loads and dumps of 16 to 23,000 bytes: the proved code, the model, and the limit
+(memcpy of the same bytes for an access, of the text for a load and a dump, one pass over leases, memset
+for a revoke and a reset, SipHash over 40 bytes for an issue), by turns in one run. Shown are medians in nanoseconds, and ratios within a round with their
 quartiles; then how cost grows with the line's depth, the table and the segment, and how many bytes of
 text go through in a second. bench/measure/README.md says how it is done.
 

@@ -19,12 +19,22 @@ const LINE: usize = 72;
 /// One item: its bytes and how often they stand. More times than a number can tell are as many as it
 /// can.
 fn item(word: &str) -> Option<(Vec<u8>, usize)> {
-    let (body, times) = match word.split_once('*') {
-        Some((body, times)) => (body, repeats(times)?),
-        None => (word, 1),
-    };
+    let (body, times) = split_repeat(word)?;
+    unit(body).map(|bytes| (bytes, times))
+}
+
+/// What stands before `*COUNT`, and the count; 1 where there is none.
+pub fn split_repeat(word: &str) -> Option<(&str, usize)> {
+    match word.split_once('*') {
+        Some((body, times)) => Some((body, repeats(times)?)),
+        None => Some((word, 1)),
+    }
+}
+
+/// The bytes of an item that is not repeated; at least one.
+pub fn unit(body: &str) -> Option<Vec<u8>> {
     let bytes = hex_line(body).or_else(|| quoted(body)).or_else(|| pairs(body))?;
-    (!bytes.is_empty()).then_some((bytes, times))
+    (!bytes.is_empty()).then_some(bytes)
 }
 
 /// `:TEXT` is a line of HEX text: its letters and a line feed.
@@ -94,7 +104,7 @@ fn plain(bytes: &[u8]) -> usize {
 }
 
 /// An item and how many bytes it stands for.
-type Item = (String, usize);
+pub type Item = (String, usize);
 
 /// The items of some bytes, one after the other. No bytes have one item too.
 fn items(bytes: &[u8], first: impl Fn(&[u8]) -> Item) -> Vec<Item> {
@@ -109,6 +119,11 @@ fn items(bytes: &[u8], first: impl Fn(&[u8]) -> Item) -> Vec<Item> {
         rest = &rest[length..];
     }
     items
+}
+
+/// The items of some bytes as hex digits.
+pub fn hex_items(bytes: &[u8]) -> Vec<Item> {
+    items(bytes, hex_item)
 }
 
 /// Hex digits: a long run of one byte, or what stands before the next.
@@ -173,6 +188,11 @@ fn joined(items: Vec<Item>) -> Vec<(usize, String)> {
     lines
 }
 
+/// Items as one argument.
+pub fn joined_text(items: Vec<Item>) -> String {
+    argument(joined(items))
+}
+
 /// Lines as one argument; long ones go on in further lines.
 fn argument(lines: Vec<(usize, String)>) -> String {
     let lines: Vec<String> = lines.into_iter().map(|(_, line)| line).collect();
@@ -181,7 +201,7 @@ fn argument(lines: Vec<(usize, String)>) -> String {
 
 /// Bytes as lines of items, each with how many bytes stand before it.
 pub fn lines(bytes: &[u8]) -> Vec<(usize, String)> {
-    joined(items(bytes, hex_item))
+    joined(hex_items(bytes))
 }
 
 /// Bytes as one argument.
@@ -191,5 +211,5 @@ pub fn text(bytes: &[u8]) -> String {
 
 /// Bytes as one argument, letters as they are: for a buffer that holds HEX text.
 pub fn hex_text(bytes: &[u8]) -> String {
-    argument(joined(items(bytes, text_item)))
+    joined_text(items(bytes, text_item))
 }

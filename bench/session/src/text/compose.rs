@@ -1,7 +1,9 @@
 //! A session as a script, with names for the tokens that it gives.
 
 use super::change::changes;
-use super::script::{Ask, Comments, Expected, Names, Script, Sizes, Standing, Start, Word};
+use super::lines::Comments;
+use super::named::{Names, Word};
+use super::script::{Ask, Expected, Script, Sizes, Standing, Start};
 use super::state::StatedState;
 use crate::token::Token;
 use crate::world::{Session, World};
@@ -61,6 +63,7 @@ impl Ask {
         if operation.takes(Argument::SecondToken) {
             self.second = named(words.second, given);
         }
+        self.leases.rename(|word| named(word, given));
     }
 }
 

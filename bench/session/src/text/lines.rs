@@ -1,7 +1,13 @@
 //! Text as lines of words. A line that ends in a backslash goes on in the next one.
 
 use super::error::Error;
-use super::script::Comments;
+
+/// Comments and blank lines above a line, and a comment behind it.
+#[derive(Clone, Debug, Default, PartialEq, Eq)]
+pub struct Comments {
+    pub above: Vec<String>,
+    pub behind: Option<String>,
+}
 
 /// A word and where it stands.
 #[derive(Clone, Copy, Debug)]

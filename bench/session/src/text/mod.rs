@@ -8,7 +8,9 @@ mod change;
 mod compose;
 mod cursor;
 mod error;
+mod leases;
 mod lines;
+mod named;
 mod parse;
 mod parse_expected;
 mod parse_request;
@@ -21,10 +23,11 @@ mod words;
 pub use bytes::FILL;
 pub use change::changes;
 pub use error::Error;
+pub use leases::Leases;
+pub use lines::Comments;
+pub use named::{Names, Unresolved, Word};
 pub use parse::parse;
 pub use print::{buffer_text, print, print_request, print_script, print_standing, print_with};
-pub use script::{
-    Ask, Comments, EntryLine, Expected, Names, Script, Sizes, Standing, Start, Unresolved, Word,
-};
+pub use script::{Ask, EntryLine, Expected, Script, Sizes, Standing, Start};
 pub use state::StatedState;
 pub use words::{number, number_text, permissions_text, token, token_text};

@@ -5,7 +5,8 @@ use std::collections::HashSet;
 use super::bytes;
 use super::cursor::Cursor;
 use super::error::Error;
-use super::script::{Expected, Word};
+use super::named::Word;
+use super::script::Expected;
 use super::words;
 use bridge::Operation;
 

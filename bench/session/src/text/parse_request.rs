@@ -7,9 +7,11 @@ use super::arguments;
 use super::bytes::{self, FILL, LIMIT};
 use super::cursor::Cursor;
 use super::error::Error;
+use super::leases::Leases;
 use super::lines::Line;
+use super::named::Word;
 use super::parse_expected::expected;
-use super::script::{Ask, Word};
+use super::script::Ask;
 use super::words;
 use crate::world::Step;
 use bridge::{Argument, Buffer, Operation, Words};
@@ -57,7 +59,7 @@ fn operation(cursor: &mut Cursor, names: &HashSet<String>) -> Result<Ask, Error>
         _ => return Err(cursor.error_before(&REQUEST)),
     };
     let words = Words { operation: number, ..Words::default() };
-    let mut ask = Ask::of(&Step { request: words, buffer: Vec::new() });
+    let mut ask = Ask::of(&Step { request: words, buffer: Vec::new(), leases: Vec::new() });
     let Some(operation) = named else {
         return Ok(ask);
     };
@@ -127,9 +129,13 @@ fn argument(
             ask.buffer = bytes::read(cursor)?;
             Ok(())
         }
+        None if word == "leases" => {
+            ask.leases = Leases::read(cursor, |name| names.contains(name))?;
+            Ok(())
+        }
         None => {
             let words = arguments::words(operation);
-            Err(cursor.error_before(&format!("{words}'buffer' or '->'")))
+            Err(cursor.error_before(&format!("{words}'buffer', 'leases' or '->'")))
         }
     }
 }

@@ -3,7 +3,8 @@
 use super::bytes;
 use super::cursor::Cursor;
 use super::error::Error;
-use super::script::{EntryLine, Sizes, Standing, Word};
+use super::named::Word;
+use super::script::{EntryLine, Sizes, Standing};
 use super::state::{Part, StatedState, STATE};
 use super::words;
 use crate::entry::{self, Bits, Entry, Field, Type};

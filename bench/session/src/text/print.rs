@@ -1,6 +1,8 @@
 //! Script to text.
 
-use super::script::{Ask, Comments, EntryLine, Expected, Script, Sizes, Standing, Start, Word};
+use super::lines::Comments;
+use super::named::Word;
+use super::script::{Ask, EntryLine, Expected, Script, Sizes, Standing, Start};
 use super::state::{StatedState, STATE};
 use super::words::token_text;
 use super::{arguments, bytes, words};
@@ -102,7 +104,15 @@ pub fn print_request(ask: &Ask) -> String {
     for any in arguments::NUMBERS {
         text.push_str(&argument_text(ask, operation, any));
     }
-    text + &trailing_buffer(ask, operation)
+    text + &trailing_buffer(ask, operation) + &leases_text(ask)
+}
+
+/// The leases that are lent with a request, if there are any.
+fn leases_text(ask: &Ask) -> String {
+    match ask.leases.is_empty() {
+        true => String::new(),
+        false => format!(" leases {}", ask.leases.text(word_text)),
+    }
 }
 
 /// A number behind its word, unless it can be left out.
@@ -133,12 +143,26 @@ fn leading(ask: &Ask, operation: Option<Operation>) -> String {
     if takes(Argument::SecondToken) {
         let _ = write!(text, " {second}");
     }
-    if takes(Argument::Offset) && !is_zero(&ask.second) {
-        let _ = write!(text, " offset {}", key_text(&ask.second));
+    if takes(Argument::Offset) {
+        text += &second_number(Argument::Offset, &ask.second);
     }
     text += &unused_text(operation, Argument::Token, &ask.token);
     text += &transferred(ask, operation);
+    if takes(Argument::Minute) {
+        text += &second_number(Argument::Minute, &ask.second);
+    }
     text + &unused_text(operation, Argument::SecondToken, &ask.second)
+}
+
+/// The second word where it is a number, unless it is zero; a name in its place stands as a token.
+fn second_number(argument: Argument, second: &Word) -> String {
+    match second {
+        Word::Number(0) => String::new(),
+        Word::Number(number) => {
+            format!(" {} {}", arguments::word(argument), words::number_text(*number))
+        }
+        named => format!(" {} {}", arguments::word(Argument::SecondToken), word_text(named)),
+    }
 }
 
 /// A token's word that the operation does not look at, unless it is zero.

@@ -1,11 +1,10 @@
 //! A script: a session as it is written, with names, expected results and comments.
 
-use std::collections::HashMap;
-use std::fmt;
-
+use super::leases::Leases;
+use super::lines::Comments;
+use super::named::{Names, Unresolved, Word};
 use super::state::StatedState;
 use crate::entry::{Entry, Field};
-use crate::token::Token;
 use crate::world::{Session, Step, World};
 use bridge::{Operation, Reply, Words};
 
@@ -39,14 +38,7 @@ pub struct Start {
     pub standing: Standing,
 }
 
-/// Comments and blank lines above a line, and a comment behind it.
-#[derive(Clone, Debug, Default, PartialEq, Eq)]
-pub struct Comments {
-    pub above: Vec<String>,
-    pub behind: Option<String>,
-}
-
-/// One request with its buffer, the answer expected, and what must stand after it.
+/// One request with what is lent with it, the answer expected, and what must stand after it.
 #[derive(Clone, Debug, PartialEq, Eq)]
 pub struct Ask {
     /// Where it stands in its file; 0 if it comes from none.
@@ -57,20 +49,9 @@ pub struct Ask {
     pub token: Word,
     pub second: Word,
     pub buffer: Vec<u8>,
+    pub leases: Leases,
     pub expected: Option<Expected>,
     pub standing: Vec<Standing>,
-}
-
-/// A word that may be a token by its name.
-#[derive(Clone, Debug, PartialEq, Eq)]
-pub enum Word {
-    Number(u64),
-    /// The token of that name, in another encoding if one is given, with an offset added.
-    Name {
-        name: String,
-        encoding: Option<u64>,
-        offset: u64,
-    },
 }
 
 /// The answer expected. What is none is not stated.
@@ -112,45 +93,6 @@ pub enum Standing {
 pub enum EntryLine {
     Whole(Entry),
     Fields(Vec<(Field, u64)>),
-}
-
-/// Tokens by their names.
-pub type Names = HashMap<String, u64>;
-
-/// Why a name stands for no token.
-#[derive(Clone, Debug, PartialEq, Eq)]
-pub enum Unresolved {
-    /// No request has given it.
-    NotGiven(String),
-    /// Its encoding has no room for the number or the offset.
-    DoesNotFit(String),
-}
-
-impl fmt::Display for Unresolved {
-    fn fmt(&self, to: &mut fmt::Formatter) -> fmt::Result {
-        match self {
-            Unresolved::NotGiven(name) => write!(to, "nobody gave '{name}'"),
-            Unresolved::DoesNotFit(name) => {
-                write!(to, "the encoding of '{name}' has no room for its number and offset")
-            }
-        }
-    }
-}
-
-impl Word {
-    pub fn resolve(&self, names: &Names) -> Result<u64, Unresolved> {
-        let (name, encoding, offset) = match self {
-            Word::Number(number) => return Ok(*number),
-            Word::Name { name, encoding, offset } => (name, *encoding, *offset),
-        };
-        let given = names.get(name).ok_or_else(|| Unresolved::NotGiven(name.clone()))?;
-        let token = Token::unpack(*given);
-        let offset = token.offset.checked_add(offset);
-        let packed = offset.and_then(|offset| {
-            Token { encoding: encoding.unwrap_or(token.encoding), offset, ..token }.pack().ok()
-        });
-        packed.ok_or_else(|| Unresolved::DoesNotFit(name.clone()))
-    }
 }
 
 impl Standing {
@@ -198,6 +140,7 @@ impl Ask {
             token: Word::Number(step.request.token),
             second: Word::Number(step.request.second),
             buffer: step.buffer.clone(),
+            leases: Leases::of(&step.leases),
             expected: None,
             standing: Vec::new(),
         }
@@ -206,7 +149,7 @@ impl Ask {
     /// How many bytes its line gives.
     pub fn bytes(&self) -> usize {
         let stated = self.expected.as_ref().and_then(|expected| expected.buffer.as_ref());
-        self.buffer.len() + stated.map_or(0, Vec::len)
+        self.buffer.len() + self.leases.length() + stated.map_or(0, Vec::len)
     }
 
     /// Puts a number at a place among the request's words.
@@ -252,7 +195,8 @@ impl Script {
         let mut names = Names::new();
         let mut steps = Vec::new();
         for ask in &self.asks {
-            steps.push(Step { request: ask.resolve(&names)?, buffer: ask.buffer.clone() });
+            let (request, leases) = (ask.resolve(&names)?, ask.leases.resolve(&names)?);
+            steps.push(Step { request, buffer: ask.buffer.clone(), leases });
             ask.add_names([None, None], &mut names);
         }
         Ok(Session { world: self.world(), steps })

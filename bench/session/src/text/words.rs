@@ -1,7 +1,7 @@
 //! Single words: numbers, permissions, names and tokens.
 
 use super::arguments;
-use super::script::Word;
+use super::named::Word;
 use crate::entry::{Field, TYPES};
 use crate::token::Token;
 use bridge::{Argument, Operation, Place};
@@ -68,8 +68,8 @@ pub fn permissions_text(permissions: u64) -> String {
 
 /// Words that cannot be names, since the lines of requests use them: these, those of operations and
 /// those of arguments.
-const RESERVED: [&str; 9] =
-    ["root", "operation", "first", "buffer", "granted", "number", "as", "exact", "entry"];
+const RESERVED: [&str; 10] =
+    ["root", "operation", "first", "buffer", "leases", "granted", "number", "as", "exact", "entry"];
 
 fn is_reserved(word: &str) -> bool {
     let argument = Argument::ALL.iter().any(|argument| arguments::word(*argument) == word);

@@ -82,7 +82,22 @@ impl Dice {
             1 => self.letters(length),
             _ => self.bytes(length),
         };
-        Step { request: self.words(), buffer }
+        Step { request: self.words(), buffer, leases: self.leases() }
+    }
+
+    /// Leases of any kind: none, a few, the same one many times, and a rest that is none.
+    pub fn leases(&mut self) -> Vec<u8> {
+        if self.below(2) == 0 {
+            return Vec::new();
+        }
+        let mut leases = Vec::new();
+        for _ in 0..self.below(5) {
+            let lease = self.some_word().to_le_bytes();
+            leases.extend(lease.repeat([1, 1, 1, self.below(70) as usize][self.below(4) as usize]));
+        }
+        let rest = if self.below(3) == 0 { self.below(8) as usize } else { 0 };
+        leases.extend(self.bytes(rest));
+        leases
     }
 
     pub fn session(&mut self) -> Session {

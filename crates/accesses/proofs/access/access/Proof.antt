@@ -4,6 +4,7 @@ use mathlib.Core.Path.{_≡_}
 use lib.ListN.{length}
 use borrow.Author.Needs.{needs}
 use Rattle.machine.specs.Requests as request
+use Rattle.checks.specs.Shifts.{shiftAs}
 use Rattle.table.specs.States.{stateAs}
 use Rattle.rulings.specs.Rulings.{verdictOn}
 use Rattle.rulings.proofs.RulingLaws.{decided-stop, effect-stop}
@@ -15,8 +16,8 @@ use Rattle.accesses.proofs.access.access.Tie as tie
 
 -- what the checks come to
 checked : (c : tie.After-check-access) (r : Transfer) → c .check-access .result ≡ r
-    → let a = c .before .before .before .before .before .before .args in
-    Begins r (verdictOn (length (a .memory .now)) (stateAs (a .s)) (a .table .now) (request.access (wayAs (a .way)) (a .token) (a .task)) (a .buffer .now)) (startOf (a .table .now) (a .token))
+    → let a = c .before .before .before .before .before .before .before .args in
+    Begins r (verdictOn (length (a .memory .now)) (stateAs (a .s)) (a .table .now) (request.access (wayAs (a .way)) (a .token) (a .task) (shiftAs (a .minute) (a .leases .now))) (a .buffer .now)) (startOf (a .table .now) (a .token))
 checked c r q = rw q at (c .check-access .ensures _ (c .before .before .settings .ensures))
 
 pub access-spec : {M : Type 1} → statement M
@@ -28,7 +29,7 @@ access-spec =
     (λ c. search needs)
     (λ c κs. search needs)
     (λ c. search needs)
-    (λ c κs. let q = checked (c .before .before .before .before .before) _ (c .before .before .before .r2 .given .1) in rw (q .1) (access-room _ _ _ _ _ _ _ (q .0)))
+    (λ c κs. let q = checked (c .before .before .before .before .before) _ (c .before .before .before .r2 .given .1) in rw (q .1) (access-room _ _ _ _ _ _ _ _ (q .0)))
     (λ c κs. search needs)
     (λ c. search needs)
     (λ c.
@@ -41,4 +42,4 @@ access-spec =
     let r = y .before .before .before .before in
     let q = checked (r .before .before) _ (r .r2 .given .1) in
     let m = rw (q .1) at (y .carry .ensures) in
-    (access-grants _ _ _ _ _ _ _ _ (c .plain .ensures) (q .0), (rw (access-effect _ _ _ _ _ _ _ (q .0)) (m .0), rw (access-effect _ _ _ _ _ _ _ (q .0)) (m .1)))))
+    (access-grants _ _ _ _ _ _ _ _ _ (c .plain .ensures) (q .0), (rw (access-effect _ _ _ _ _ _ _ _ (q .0)) (m .0), rw (access-effect _ _ _ _ _ _ _ _ (q .0)) (m .1)))))

@@ -26,8 +26,8 @@ check-far-spec =
     (λ c. search needs)
     (λ c. search needs)
     (λ c κs. (c .before .before .before .before .pre, reach-in _ _ _ _ (token (c .before .before) _ (c .enum-told .given .1) .0)))
-    (λ c s b long ok. token-stops _ s _ _ b ok (access-token _ _ _ _ _ _ _ (token (c .before .before .before) _ (c .before .r .given .1))))
-    (λ c s b long ok.
+    (λ c s φ b long j ok. token-stops _ s _ _ b ok (access-token _ _ _ _ _ _ _ _ j (token (c .before .before .before) _ (c .before .r .given .1))))
+    (λ c s φ b long j ok.
     let l = c .before .before .before in
     let a = l .before .before .args in
-    rw (access-rest _ _ _ _ _ _ _ ok (token l _ (c .before .enum-told .given .1) .0)) (c .check-transfer .ensures (a .memory) (a .task) s b long)))
+    rw (access-rest _ _ _ _ _ _ _ _ j ok (token l _ (c .before .enum-told .given .1) .0)) (c .check-transfer .ensures (a .memory) (a .task) s φ b long)))

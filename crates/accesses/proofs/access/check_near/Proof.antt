@@ -16,14 +16,14 @@ check-near-spec =
     (λ c κs.
     let p = c .before .before .before .before .before .pre in
     (p .0, rw (p .0) at (near-reaches _ _ _ _ (p .0) (p .1) .1 .1)))
-    (λ c s b long ok.
+    (λ c s φ b long j ok.
     let e = c .before .before .before in
     let p = e .before .before .pre in
     let k = near-reaches _ _ _ _ (p .0) (p .1) in
-    token-stops _ s _ _ b ok (access-token _ _ _ _ _ _ _ (reach-locked _ _ _ _ _ (e .entry-at .result) (k .0) (k .1 .0) (e .entry-at .ensures) (c .if1 .taken))))
-    (λ c s b long ok.
+    token-stops _ s _ _ b ok (access-token _ _ _ _ _ _ _ _ j (reach-locked _ _ _ _ _ (e .entry-at .result) (k .0) (k .1 .0) (e .entry-at .ensures) (c .if1 .taken))))
+    (λ c s φ b long j ok.
     let e = c .before .before .before .before in
     let i = e .before .before in
     let a = i .args in
     let k = near-reaches _ _ _ _ (i .pre .0) (i .pre .1) in
-    rw (access-rest _ _ _ _ _ _ _ ok (reach-open _ _ _ _ _ (e .entry-at .result) (k .0) (k .1 .0) (e .entry-at .ensures) (c .before .if1 .left))) (c .check-transfer .ensures (a .memory) (a .task) s b long)))
+    rw (access-rest _ _ _ _ _ _ _ _ j ok (reach-open _ _ _ _ _ (e .entry-at .result) (k .0) (k .1 .0) (e .entry-at .ensures) (c .before .if1 .left))) (c .check-transfer .ensures (a .memory) (a .task) s φ b long)))

@@ -28,21 +28,21 @@ check-transfer-spec =
     (tie.spec
     (λ c κs. let p = c .before .pre in rw (p .0) (p .1))
     (λ c κs. search needs)
-    (λ c m u s b long.
+    (λ c m u s φ b long.
     let e = c .before .before in
     let i = e .before .before in
-    transfer-right m s _ (wayAs (i .args .way)) _ u b _ long _ (e .entry-at .result) (i .pre .0) (e .entry-at .ensures) (right (c .before) _ (not-true _ (c .if1 .taken))))
+    transfer-right m s _ (wayAs (i .args .way)) _ u φ b _ long _ (e .entry-at .result) (i .pre .0) (e .entry-at .ensures) (right (c .before) _ (not-true _ (c .if1 .taken))))
     (λ c. search needs)
     (λ c κs. search needs)
     (λ c. search needs)
     (λ c. omega (arith, room (c .before .before .before) (c .before .before .if2 .taken)))
-    (λ c m u s b long.
+    (λ c m u s φ b long.
     let h = c .before .before .before .before .before .before in
     let e = h .before in
     let i = e .before .before in
-    (transfer-in m s _ (wayAs (i .args .way)) _ u b _ long _ (e .entry-at .result) (i .pre .0) (e .entry-at .ensures) (right h _ (not-false _ (c .before .before .before .before .before .if1 .left))) (sym (c .before .before .before .inside .ensures) ∙ c .before .before .if2 .taken), rw (e .entry-at .ensures, i .pre .0)))
-    (λ c m u s b long.
+    (transfer-in m s _ (wayAs (i .args .way)) _ u φ b _ long _ (e .entry-at .result) (i .pre .0) (e .entry-at .ensures) (right h _ (not-false _ (c .before .before .before .before .before .if1 .left))) (sym (c .before .before .before .inside .ensures) ∙ c .before .before .if2 .taken), rw (e .entry-at .ensures, i .pre .0)))
+    (λ c m u s φ b long.
     let h = c .before .before .before .before in
     let e = h .before in
     let i = e .before .before in
-    transfer-out m s _ (wayAs (i .args .way)) _ u b _ long _ (e .entry-at .result) (i .pre .0) (e .entry-at .ensures) (right h _ (not-false _ (c .before .before .before .if1 .left))) (sym (c .before .inside .ensures) ∙ c .if2 .left)))
+    transfer-out m s _ (wayAs (i .args .way)) _ u φ b _ long _ (e .entry-at .result) (i .pre .0) (e .entry-at .ensures) (right h _ (not-false _ (c .before .before .before .if1 .left))) (sym (c .before .inside .ensures) ∙ c .if2 .left)))

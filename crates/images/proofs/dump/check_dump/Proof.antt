@@ -8,18 +8,20 @@ use lib.Dec.{eqb, ltb}
 use Rattle.machine.specs.Parts.{State}
 use Rattle.machine.specs.Requests.{dump}
 use Rattle.checks.specs.Holds.{requestHolds, settingsHold}
+use Rattle.checks.specs.Shifts.{shiftAs}
 use Rattle.rulings.proofs.RulingLaws.{request-stops}
 use Rattle.images.proofs.ImageLaws.{dump-request}
 use Rattle.images.proofs.dump.check_dump.Statement.{statement}
 use Rattle.images.proofs.dump.check_dump.Tie as tie
 
 -- place 1, as the test says
-asked : (c : tie.After-read) (s : State) (b : Bool)
-    → let a = c .before .before .before .args in
+asked : (c : tie.After-shift-fits) (s : State) (b : Bool)
+    → let r = c .before .before in
+    let a = r .before .before .before .before .args in
     a .set ≡ settingsHold (a .memory) s (a .table .now)
-    → (a .set && ltb (a .task) (2 ^ 55) && eqb (c .read .result .offset) 0) ≡ b
-    → requestHolds (a .memory) s (a .table .now) (dump (a .token) (a .task)) (a .buffer .now) ≡ b
-asked c s b e h = sym (dump-request _ _ _ _ _ _) ∙ (rw (e, c .read .ensures) at h)
+    → (a .set && ltb (a .task) (2 ^ 55) && eqb (r .read .result .offset) 0 && c .shift-fits .result) ≡ b
+    → requestHolds (a .memory) s (a .table .now) (dump (a .token) (a .task) (shiftAs (a .minute) (a .leases .now))) (a .buffer .now) ≡ b
+asked c s b e h = sym (dump-request _ _ _ _ _ _ _) ∙ (rw (e, c .before .before .read .ensures, c .shift-fits .ensures) at h)
 
 pub check-dump-spec : {M : Type 1} → statement M
 check-dump-spec =
@@ -27,5 +29,10 @@ check-dump-spec =
     (tie.spec
     (λ c κs. search needs)
     (λ c κs. search needs)
-    (λ c s e. c .dump-token .ensures s _ refl (asked (c .before .before .before) s _ e (c .before .if1 .taken)))
-    (λ c s e. request-stops _ _ _ _ _ (asked (c .before .before) s _ e (c .if1 .left))))
+    (λ c κs. search needs)
+    (λ c κs. search needs)
+    (λ c s e.
+    let j = c .before in
+    let i = j .before .before in
+    c .dump-token .ensures s _ _ refl (rw (i .before .before .read .ensures) at (j .judge-leases .ensures)) (asked i s _ e (j .before .if1 .taken)))
+    (λ c s e. request-stops _ _ _ _ _ (asked (c .before) s _ e (c .if1 .left))))

@@ -12,4 +12,4 @@ dump-spec =
     (λ c κs. search needs)
     (λ c κs. search needs)
     (λ c. search needs)
-    (λ c. let i = c .before .before .before in (dump-handed _ _ _ _ _ _ (i .dump-image .result) (c .outcome .result) (i .dump-image .ensures .0) (c .outcome .ensures), i .dump-image .ensures .1)))
+    (λ c. let i = c .before .before .before in (dump-handed _ _ _ _ _ _ _ (i .dump-image .result) (c .outcome .result) (i .dump-image .ensures .0) (c .outcome .ensures), i .dump-image .ensures .1)))

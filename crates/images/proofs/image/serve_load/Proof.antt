@@ -13,4 +13,4 @@ serve-load-spec =
     (λ c κs. search needs)
     (λ c. search needs)
     (λ c. search needs)
-    (λ c. let i = c .before .before .before .before .before in (load-handed _ _ _ _ _ _ (i .image .result) (c .outcome .result) (i .image .ensures .0) (c .outcome .ensures), i .image .ensures .1)))
+    (λ c. let i = c .before .before .before .before .before in (load-handed _ _ _ _ _ _ _ (i .image .result) (c .outcome .result) (i .image .ensures .0) (c .outcome .ensures), i .image .ensures .1)))

@@ -12,4 +12,4 @@ load-spec =
     (λ c κs. search needs)
     (λ c κs. search needs)
     (λ c. search needs)
-    (λ c. let i = c .before .before .before in (load-handed _ _ _ _ _ _ (i .load-image .result) (c .outcome .result) (i .load-image .ensures .0) (c .outcome .ensures), i .load-image .ensures .1)))
+    (λ c. let i = c .before .before .before in (load-handed _ _ _ _ _ _ _ (i .load-image .result) (c .outcome .result) (i .load-image .ensures .0) (c .outcome .ensures), i .load-image .ensures .1)))

@@ -5,6 +5,7 @@ use lib.ListN.{length}
 use borrow.Author.Needs.{needs}
 use Rattle.machine.specs.Operations.{namedEntry}
 use Rattle.machine.specs.Requests as request
+use Rattle.checks.specs.Shifts.{shiftAs}
 use Rattle.table.specs.States.{stateAs}
 use Rattle.rulings.specs.Rulings.{verdictOn}
 use Rattle.rulings.proofs.RulingLaws.{effect-stop}
@@ -16,8 +17,8 @@ use Rattle.images.proofs.load.load_image.Tie as tie
 
 -- what the checks come to
 checked : (c : tie.After-check-load) (r : Segment) → c .check-load .result ≡ r
-    → let a = c .before .before .before .before .before .args in
-    Lies r (verdictOn (length (a .memory .now)) (stateAs (a .s)) (a .table .now) (request.load (a .token) (a .task)) (a .text .now)) (namedEntry (a .table .now) (a .token))
+    → let a = c .before .before .before .before .before .before .args in
+    Lies r (verdictOn (length (a .memory .now)) (stateAs (a .s)) (a .table .now) (request.load (a .token) (a .task) (shiftAs (a .minute) (a .leases .now))) (a .text .now)) (namedEntry (a .table .now) (a .token))
 checked c r q = rw q at (c .check-load .ensures _ (c .before .settings .ensures))
 
 pub load-image-spec : {M : Type 1} → statement M
@@ -28,11 +29,11 @@ load-image-spec =
     (λ c κs. search needs)
     (λ c. search needs)
     (λ c. search needs)
-    (λ c κs. let q = checked (c .before .before .before .before) _ (c .before .before .r2 .given .1) in rw (q .1 .0, q .1 .1) (load-room _ _ _ _ _ _ (q .0), load-fits _ _ _ _ _ _ (q .0)))
+    (λ c κs. let q = checked (c .before .before .before .before) _ (c .before .before .r2 .given .1) in rw (q .1 .0, q .1 .1) (load-room _ _ _ _ _ _ _ (q .0), load-fits _ _ _ _ _ _ _ (q .0)))
     (λ c.
     let v = checked (c .before .before .before) _ (c .before .r .given .1) in
     (v, rw (effect-stop _ _ _ _ _ v)))
     (λ c. search needs)
     (λ c.
     let q = checked (c .before .before .before .before .before .before .before) _ (c .before .before .before .before .before .r2 .given .1) in
-    ((q .0, refl), rw (load-effect _ _ _ _ _ _ (q .0)) (rw (q .1 .0) at (c .before .before .store-image .ensures)))))
+    ((q .0, refl), rw (load-effect _ _ _ _ _ _ _ (q .0)) (rw (q .1 .0) at (c .before .before .store-image .ensures)))))

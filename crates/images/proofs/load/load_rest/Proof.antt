@@ -20,20 +20,20 @@ load-rest-spec =
     (tie.spec
     (λ c κs. let p = c .before .pre in rw (p .0) (p .1))
     (λ c κs. search needs)
-    (λ c m u s b ends.
+    (λ c m u s φ b ends.
     let e = c .before .before in
     let i = e .before .before in
-    load-right m s _ _ u b _ ends _ (e .entry-at .result) (i .pre .0) (e .entry-at .ensures) (right (c .before) _ (not-true _ (c .if1 .taken))))
+    load-right m s _ _ u φ b _ ends _ (e .entry-at .result) (i .pre .0) (e .entry-at .ensures) (right (c .before) _ (not-true _ (c .if1 .taken))))
     (λ c. search needs)
     (λ c. search needs)
     (λ c. search needs)
-    (λ c m u s b ends.
+    (λ c m u s φ b ends.
     let h = c .before .before .before .before .before in
     let e = h .before in
     let i = e .before .before in
-    (load-in m s _ _ u b _ ends _ (e .entry-at .result) (i .pre .0) (e .entry-at .ensures) (right h _ (not-false _ (c .before .before .before .before .if1 .left))) (le-leb _ _ (c .before .before .if2 .taken)), (rw (e .entry-at .ensures, i .pre .0), rw (e .entry-at .ensures, i .pre .0))))
-    (λ c m u s b ends.
+    (load-in m s _ _ u φ b _ ends _ (e .entry-at .result) (i .pre .0) (e .entry-at .ensures) (right h _ (not-false _ (c .before .before .before .before .if1 .left))) (le-leb _ _ (c .before .before .if2 .taken)), (rw (e .entry-at .ensures, i .pre .0), rw (e .entry-at .ensures, i .pre .0))))
+    (λ c m u s φ b ends.
     let h = c .before .before .before in
     let e = h .before in
     let i = e .before .before in
-    load-out m s _ _ u b _ ends _ (e .entry-at .result) (i .pre .0) (e .entry-at .ensures) (right h _ (not-false _ (c .before .before .if1 .left))) (lt-leb _ _ (c .if2 .left))))
+    load-out m s _ _ u φ b _ ends _ (e .entry-at .result) (i .pre .0) (e .entry-at .ensures) (right h _ (not-false _ (c .before .before .if1 .left))) (lt-leb _ _ (c .if2 .left))))

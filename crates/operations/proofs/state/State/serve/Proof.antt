@@ -9,7 +9,7 @@ use Rattle.operations.proofs.state.State.serve.Statement.{statement}
 use Rattle.operations.proofs.state.State.serve.Tie as tie
 
 -- what is known of the way
-way : (c : tie.After-way-of) (r : Accessing) → c .way-of .result ≡ r → Accesses r (c .before .before .before .before .args .request)
+way : (c : tie.After-way-of) (r : Accessing) → c .way-of .result ≡ r → Accesses r (c .before .before .before .before .before .args .request)
 way c r q = rw q at (c .way-of .ensures)
 
 pub serve-spec : {M : Type 1} → statement M
@@ -28,7 +28,7 @@ serve-spec =
     let g = c .before .before .before .before in
     let m = g .before .before .before .before .before .before in
     let e = g .access .ensures in
-    turned-as _ _ _ _ (g .access .result) _ _ _ _ _ (way (m .before .before) _ (m .a .given .1)) (turn _ _ _ _ _ (g .access .result) _ _ _ (e .0) (e .1 .0) (e .1 .1)))
+    turned-as _ _ _ _ (g .access .result) _ _ _ _ _ (way (m .before .before) _ (m .a .given .1) _) (turn _ _ _ _ _ (g .access .result) _ _ _ (e .0) (e .1 .0) (e .1 .1)))
     (λ c. search needs)
     (λ c. search needs)
     (λ c. search needs)

@@ -1,0 +1,3 @@
+pub mod Examples
+pub mod Lease
+pub mod Windows
