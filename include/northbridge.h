@@ -16,7 +16,7 @@ extern "C" {
 #endif
 
 /* The interface's version. It is raised with every change that a caller can see. */
-#define NORTHBRIDGE_VERSION 5
+#define NORTHBRIDGE_VERSION 6
 
 /* Sizes in bytes. All words have 64 bits, the low byte first. */
 #define NORTHBRIDGE_REQUEST_SIZE 64
@@ -350,7 +350,7 @@ static inline struct northbridge_answer northbridge_ask(
     return northbridge_answer_of(told);
 }
 
-/* The root over all of memory, whose token is 0; every other entry is freed. The key is secret, the first nonce is 1 or more. */
+/* The root over all of memory, whose token is 0; every other entry becomes zeros, kept tags too. The key is secret, the first nonce is 1 or more. */
 static inline struct northbridge_answer northbridge_reset(struct northbridge *bridge, uint64_t key0, uint64_t key1, uint64_t first_nonce)
 {
     struct northbridge_request request = northbridge_request_of(NORTHBRIDGE_RESET, key0);

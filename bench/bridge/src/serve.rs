@@ -11,7 +11,7 @@ use crate::state::State;
 use crate::words::Words;
 
 /// The interface's version, which include/northbridge.h has too.
-pub const VERSION: u64 = 5;
+pub const VERSION: u64 = 6;
 
 /// How many bytes the interface's request, state and answer have.
 pub const REQUEST_BYTES: usize = 8 * Words::COUNT;

@@ -12,14 +12,38 @@ use session::Step;
 use crate::free;
 use crate::limits::{ENTRIES, MEMORY, SPENT};
 use crate::machine::Machine;
+use crate::tag;
 
 /// What is looked for.
 #[derive(Clone, Copy, Debug, PartialEq, Eq)]
 pub enum Event {
-    PassedOne,
+    PartPassed,
+    RestPassed,
+    WholePassed,
+    MergePassed,
+    DerivePassed,
+    ExecuteOnlyPassed,
+    RevokePassed,
+    BothPassed,
     PassedTwo,
-    RefusedByPassing,
+    PassedToTheLast,
+    PartRefused,
+    PartFoundNone,
+    RestRefused,
+    WholeRefused,
+    MergeRefused,
+    DeriveRefused,
+    ExecuteOnlyRefused,
+    RevokeRefused,
+    HandedPassed,
+    HandedWithBytesPassed,
+    FreedPassed,
+    NeverUsedPassed,
+    TagReturned,
     RestWithTagZero,
+    RestAsItsPart,
+    KeptTagCleared,
+    ClearedTagGiven,
     LinkRefusedByNonce,
     NumbersWentRound,
     LastNumberAgain,
@@ -80,11 +104,37 @@ pub enum Event {
     MisfitForOthers,
 }
 
-pub const EVENTS: [(Event, &str); 62] = [
-    (Event::PassedOne, "a revoke passed over one nonce"),
-    (Event::PassedTwo, "a revoke passed over two nonces"),
-    (Event::RefusedByPassing, "a revoke was refused since all nonces left were passed over"),
-    (Event::RestWithTagZero, "a root's rest got tag 0"),
+pub const EVENTS: [(Event, &str); 85] = [
+    (Event::PartPassed, "a create's part passed over a nonce"),
+    (Event::RestPassed, "a create's rest passed over a nonce"),
+    (Event::WholePassed, "a create of the whole passed over a nonce"),
+    (Event::MergePassed, "a merge passed over a nonce"),
+    (Event::DerivePassed, "a derive passed over a nonce"),
+    (Event::ExecuteOnlyPassed, "an execute-only passed over a nonce"),
+    (Event::RevokePassed, "a revoke passed over a nonce"),
+    (Event::BothPassed, "a create's part and its rest each passed over a nonce"),
+    (Event::PassedTwo, "an issue passed over two nonces"),
+    (Event::PassedToTheLast, "an issue passed over a nonce and used the last one"),
+    (Event::PartRefused, "a create had a nonce for each, but for one that its part passed over"),
+    (Event::PartFoundNone, "a create's part was to pass over all nonces left, two or more"),
+    (
+        Event::RestRefused,
+        "a create's part took the next nonce, and its rest found none of those left",
+    ),
+    (Event::WholeRefused, "a create of the whole was to pass over all nonces left"),
+    (Event::MergeRefused, "a merge was to pass over all nonces left"),
+    (Event::DeriveRefused, "a derive was to pass over all nonces left"),
+    (Event::ExecuteOnlyRefused, "an execute-only was to pass over all nonces left"),
+    (Event::RevokeRefused, "a revoke was to pass over all nonces left"),
+    (Event::HandedPassed, "a kept tag that was handed over was passed over"),
+    (Event::HandedWithBytesPassed, "a kept tag was passed over that stood among other bytes"),
+    (Event::FreedPassed, "the kept tag of a number freed since a reset was passed over"),
+    (Event::NeverUsedPassed, "tag 0 was passed over for a number never used"),
+    (Event::TagReturned, "a number got a tag that it had before its last one"),
+    (Event::RestWithTagZero, "a root's rest got tag 0 again, after another"),
+    (Event::RestAsItsPart, "a create's rest got its part's tag"),
+    (Event::KeptTagCleared, "a reset cleared a kept tag"),
+    (Event::ClearedTagGiven, "a number got a tag that it had kept up to a reset"),
     (Event::LinkRefusedByNonce, "a link with the right tag was missing by its nonce alone"),
     (Event::NumbersWentRound, "the numbers went round"),
     (Event::LastNumberAgain, "the number given last was given again"),
@@ -147,12 +197,28 @@ pub const EVENTS: [(Event, &str); 62] = [
 
 /// What stood before a request.
 #[derive(Clone, Copy, Debug)]
-pub struct Before {
+pub struct Before<'a> {
     pub state: State,
-    /// Whether number 0 was in use.
-    pub root: bool,
-    /// The free numbers but 0, by the table.
-    pub free: u64,
+    pub table: &'a [u8],
+    /// The tokens that were given since the session began, or since its last reset.
+    pub given: &'a [u64],
+    /// The table before that reset; empty if there was none.
+    pub cleared: &'a [u8],
+}
+
+impl Before<'_> {
+    fn entry(&self, number: usize) -> Entry {
+        Entry::of(self.table, number)
+    }
+
+    /// Whether a number was given under a tag.
+    fn gave(&self, number: usize, tag: u64) -> bool {
+        let given = |word: &u64| {
+            let token = Token::unpack(*word);
+            (token.number, token.tag) == (number as u64, tag)
+        };
+        self.given.iter().any(given)
+    }
 }
 
 #[derive(Clone, Debug, PartialEq, Eq)]
@@ -176,8 +242,11 @@ impl Events {
         if operation.is_some_and(Operation::gives_number) {
             self.given(&seen);
         }
+        if operation.is_some_and(Operation::issues) {
+            self.issues(&seen);
+        }
         match operation {
-            Some(Operation::Revoke) => self.revoke(&seen),
+            Some(Operation::Reset) => self.add(Event::KeptTagCleared, seen.clears_kept_tag()),
             Some(Operation::Derive) => self.derive(&seen),
             Some(Operation::Clone) => self.add(Event::CountAtTop, seen.count_at_top()),
             Some(Operation::Load) => self.load(&seen, lent),
@@ -201,13 +270,73 @@ impl Events {
         self.0[event as usize] += u64::from(seen);
     }
 
-    fn revoke(&mut self, seen: &Seen) {
-        let before = seen.before.state.next_nonce;
-        let used = seen.after.next_nonce.wrapping_sub(before);
-        self.add(Event::PassedOne, used == 2);
-        self.add(Event::PassedTwo, used == 3);
-        let refused = seen.reply.refusal == Check::Nonces as u64;
-        self.add(Event::RefusedByPassing, refused && before < SPENT);
+    /// The nonces that a request's issues passed over, and the tags that they gave.
+    fn issues(&mut self, seen: &Seen) {
+        match Check::of(seen.reply.refusal) {
+            None => {}
+            Some(Check::Nonces) => return self.refused_by_passing(seen),
+            Some(_) => return,
+        }
+        let mut next = seen.before.state.next_nonce;
+        let mut passing = 0;
+        for issue in seen.issued() {
+            let entry = seen.entry(issue.number);
+            let passed = entry.get(entry::NONCE).wrapping_sub(next);
+            next = entry.get(entry::NONCE) + 1;
+            self.tag_given(seen, issue.number);
+            if passed > 0 {
+                passing += 1;
+                self.add(issue.passed, true);
+                self.add(Event::PassedTwo, passed == 2);
+                self.add(Event::PassedToTheLast, next == SPENT);
+                self.last_tag(seen, issue.number);
+            }
+        }
+        self.add(Event::BothPassed, passing == 2);
+        let tags = [seen.reply.first, seen.reply.second].map(|word| Token::unpack(word).tag);
+        self.add(Event::RestAsItsPart, seen.reply.second != 0 && tags[0] == tags[1]);
+    }
+
+    /// Whose tag it was that was passed over.
+    fn last_tag(&mut self, seen: &Seen, number: usize) {
+        let last = seen.before.entry(number);
+        let (tag, used) = (last.get(entry::TAG), !last.is_free());
+        let known = used || seen.before.gave(number, tag);
+        let alone = last.kept_tag().is_some();
+        self.add(Event::HandedPassed, !known && tag != 0 && alone);
+        self.add(Event::HandedWithBytesPassed, !known && tag != 0 && !alone);
+        self.add(Event::FreedPassed, !used && seen.before.gave(number, tag));
+        self.add(Event::NeverUsedPassed, last == Entry::default());
+    }
+
+    fn tag_given(&mut self, seen: &Seen, number: usize) {
+        let tag = seen.entry(number).get(entry::TAG);
+        let given = seen.before.gave(number, tag);
+        self.add(Event::TagReturned, given);
+        let kept = Entry::of(seen.before.cleared, number);
+        let kept = kept.is_free() && tag != 0 && kept.get(entry::TAG) == tag;
+        self.add(Event::ClearedTagGiven, kept && !given);
+    }
+
+    /// A request that was refused for its nonces: whether enough were left, but for those to be passed
+    /// over.
+    fn refused_by_passing(&mut self, seen: &Seen) {
+        let left = SPENT.saturating_sub(seen.before.state.next_nonce);
+        let event = match Operation::of(seen.request.operation) {
+            Some(Operation::Merge) => Event::MergeRefused,
+            Some(Operation::Derive) => Event::DeriveRefused,
+            Some(Operation::ExecuteOnly) => Event::ExecuteOnlyRefused,
+            Some(Operation::Revoke) => Event::RevokeRefused,
+            _ if seen.takes_the_whole() => Event::WholeRefused,
+            _ => match seen.passed_by_part() {
+                0 => Event::RestRefused,
+                passed if passed == left => Event::PartFoundNone,
+                _ => Event::PartRefused,
+            },
+        };
+        let two = [Event::RestRefused, Event::PartRefused, Event::PartFoundNone].contains(&event);
+        let needed = 1 + u64::from(two);
+        self.add(event, left >= needed);
     }
 
     fn derive(&mut self, seen: &Seen) {
@@ -248,21 +377,22 @@ impl Events {
         self.add(Event::LastNumberAgain, after == before);
         let create = seen.request.operation == Operation::Create as u64;
         let root = seen.entry(0);
-        self.add(Event::RootFreed, create && seen.before.root && root.is_free());
+        let root_freed = !seen.before.entry(0).is_free() && root.is_free();
+        self.add(Event::RootFreed, create && root_freed);
         let of_root = create && seen.named() == 0 && !root.is_free();
         self.add(Event::RestWithTagZero, of_root && root.get(entry::TAG) == 0);
     }
 
     /// What became of the total.
     fn total(&mut self, seen: &Seen, operation: Option<Operation>) {
-        let (total, free) = (seen.before.state.total, seen.before.free);
+        let total = seen.before.state.total;
         let top = free::top(seen.machine.table());
         let full = seen.reply.refusal == Check::Numbers as u64;
         self.add(Event::FullByTable, full && total != 0);
         if seen.reply.refusal != 0 {
             return;
         }
-        let root_freed = seen.before.root && seen.entry(0).is_free();
+        let root_freed = !seen.before.entry(0).is_free() && seen.entry(0).is_free();
         match operation {
             Some(Operation::Reset) => self.add(Event::ResetOverTotal, total > top),
             Some(Operation::Create) if seen.entry(seen.named()).is_free() => {
@@ -277,6 +407,7 @@ impl Events {
                 self.add(Event::RootMerged, root_freed);
             }
             Some(Operation::Drop) => {
+                let free = free::counted(seen.before.table);
                 let freed = free::counted(seen.machine.table()).saturating_sub(free);
                 self.add(Event::DroppedAtTop, total == top && freed > 0);
                 self.add(Event::ClimbedToTop, total + 1 == top && freed > 1);
@@ -385,9 +516,16 @@ impl Events {
 struct Seen<'a> {
     request: &'a Words,
     reply: &'a Reply,
-    before: Before,
+    before: Before<'a>,
     after: State,
     machine: &'a dyn Machine,
+}
+
+/// An issue of a granted request.
+struct Issue {
+    number: usize,
+    /// What it is if it passed over a nonce.
+    passed: Event,
 }
 
 impl Seen<'_> {
@@ -401,6 +539,53 @@ impl Seen<'_> {
 
     fn entry(&self, number: usize) -> Entry {
         Entry::of(self.machine.table(), number)
+    }
+
+    /// The issues of a granted request, in their order.
+    fn issued(&self) -> Vec<Issue> {
+        let given = |passed| Issue { number: self.after.last_number as usize, passed };
+        let again = |passed| Issue { number: self.named(), passed };
+        match Operation::of(self.request.operation) {
+            Some(Operation::Create) if self.reply.second == 0 && self.takes_the_whole() => {
+                vec![given(Event::WholePassed)]
+            }
+            Some(Operation::Create) => vec![given(Event::PartPassed), again(Event::RestPassed)],
+            Some(Operation::Merge) => vec![again(Event::MergePassed)],
+            Some(Operation::Derive) => vec![given(Event::DerivePassed)],
+            Some(Operation::ExecuteOnly) => vec![given(Event::ExecuteOnlyPassed)],
+            Some(Operation::Revoke) => vec![again(Event::RevokePassed)],
+            _ => Vec::new(),
+        }
+    }
+
+    /// Of a create: whether it leaves no rest.
+    fn takes_the_whole(&self) -> bool {
+        self.before.entry(self.named()).length() == self.request.length
+    }
+
+    /// Of a create that was refused for its nonces: how many of those left its part passed over.
+    fn passed_by_part(&self) -> u64 {
+        let Words { length, user, permissions, .. } = *self.request;
+        let State { key, last_number, next_nonce, .. } = self.before.state;
+        let Some(number) = free::next(self.before.table, last_number) else {
+            return 0;
+        };
+        let old = self.before.entry(self.named());
+        let part = Entry::direct(old.get(entry::BASE), length).with(entry::USER, user);
+        let part = part.with(entry::PERMISSIONS, permissions);
+        let part = part.with(entry::LOCKABLE, old.get(entry::LOCKABLE));
+        let kept = self.before.entry(number).get(entry::TAG);
+        let passed = |nonce: &u64| tag::issued(&part, key, number, *nonce) == kept;
+        (next_nonce..SPENT).take_while(passed).count() as u64
+    }
+
+    /// Of a reset: whether it was granted over a free entry that kept a tag.
+    fn clears_kept_tag(&self) -> bool {
+        let kept = |number| {
+            let entry = self.before.entry(number);
+            entry.is_free() && entry.get(entry::TAG) != 0
+        };
+        self.reply.refusal == 0 && (0..self.before.table.len() / entry::SIZE).any(kept)
     }
 
     fn count_at_top(&self) -> bool {

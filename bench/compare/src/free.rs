@@ -8,6 +8,13 @@ pub fn counted(table: &[u8]) -> u64 {
     numbers.filter(|number| Entry::of(table, *number).is_free()).count() as u64
 }
 
+/// The number that is given next: the first free one after the last given, going round to 1.
+pub fn next(table: &[u8], last: u64) -> Option<usize> {
+    let (entries, after) = (table.len() / SIZE, usize::try_from(last).ok()?.saturating_add(1));
+    let behind = after.min(entries)..entries;
+    behind.chain(1..after.min(entries)).find(|number| Entry::of(table, *number).is_free())
+}
+
 /// How many there can be at most: entries minus one.
 pub fn top(table: &[u8]) -> u64 {
     (table.len() / SIZE).saturating_sub(1) as u64
@@ -26,5 +33,14 @@ mod tests {
         Entry::direct(0, 1).store(&mut table, 2);
         assert_eq!(counted(&table), 2);
         assert_eq!((counted(&[]), top(&[])), (0, 0));
+    }
+
+    #[test]
+    fn the_next_number_goes_round() {
+        let mut table = [0; 4 * SIZE];
+        Entry::direct(0, 1).store(&mut table, 3);
+        let next = [0, 1, 2, 3, u64::MAX].map(|last| next(&table, last));
+        assert_eq!(next, [Some(1), Some(2), Some(1), Some(1), Some(1)]);
+        assert_eq!(super::next(&[], 0), None);
     }
 }

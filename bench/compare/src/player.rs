@@ -4,9 +4,9 @@
 
 use std::fmt;
 
-use bridge::{Check, Operation, Reply, Words};
+use bridge::{Check, Operation, Reply, State, Words};
 use session::entry::{self, Entry};
-use session::{Session, Step, World};
+use session::{replace, Session, Step, World};
 
 use crate::coverage::{Coverage, Under};
 use crate::dice::Dice;
@@ -31,6 +31,11 @@ pub struct Player<'a> {
     pub rubbish: bool,
     /// The tokens that this session's requests gave, the last one at the end.
     pub given: Vec<u64>,
+    /// How many of them were given before the last reset.
+    since: usize,
+    /// The table before the last request, and before the last reset.
+    before: Vec<u8>,
+    cleared: Vec<u8>,
     pair: &'a mut Pair,
     coverage: &'a mut Coverage,
     progress: &'a mut Progress,
@@ -54,8 +59,21 @@ impl<'a> Player<'a> {
         [asked, most]: [u64; 2],
     ) -> Self {
         let log = Session { world: World::zeros(0, 0), steps: Vec::new() };
-        let (rubbish, given, found) = (false, Vec::new(), None);
-        Player { dice, rubbish, given, pair, coverage, progress, log, asked, most, found }
+        Player {
+            dice,
+            rubbish: false,
+            given: Vec::new(),
+            since: 0,
+            before: Vec::new(),
+            cleared: Vec::new(),
+            pair,
+            coverage,
+            progress,
+            log,
+            asked,
+            most,
+            found: None,
+        }
     }
 
     /// How many requests were asked, and the difference, if there was one.
@@ -76,6 +94,8 @@ impl<'a> Player<'a> {
         self.log.world = world;
         self.log.steps.clear();
         self.given.clear();
+        self.cleared.clear();
+        self.since = 0;
         if let Err(difference) = self.pair.begin(&self.log.world) {
             self.stop(difference);
         }
@@ -107,7 +127,8 @@ impl<'a> Player<'a> {
         }
         self.asked += 1;
         self.progress.asked(self.asked);
-        let before = self.before();
+        let before = self.state();
+        replace(&mut self.before, self.pair.reference.table());
         let answer = self.pair.ask(&step);
         self.log.steps.push(step);
         match answer {
@@ -123,10 +144,12 @@ impl<'a> Player<'a> {
     }
 
     /// Counts what the last request reached, and keeps the tokens that it gave.
-    fn count(&mut self, reply: &Reply, before: Before) {
+    fn count(&mut self, reply: &Reply, state: State) {
         let Some(step) = self.log.steps.last() else { return };
         let (machine, operation) = (self.pair.reference.as_ref(), step.request.operation);
         self.coverage.count(operation, reply);
+        let given = self.given.get(self.since..).unwrap_or(&[]);
+        let before = Before { state, table: &self.before, given, cleared: &self.cleared };
         self.coverage.events.count(step, reply, before, machine);
         for (under, step) in step_without(step, reply, machine) {
             let mut world = world_of(machine);
@@ -143,6 +166,10 @@ impl<'a> Player<'a> {
     }
 
     fn keep(&mut self, operation: u64, reply: &Reply) {
+        if operation == Operation::Reset as u64 && reply.refusal == 0 {
+            self.since = self.given.len();
+            replace(&mut self.cleared, &self.before);
+        }
         let issues = Operation::of(operation).is_some_and(Operation::issues);
         if !issues || reply.refusal != 0 {
             return;
@@ -164,14 +191,9 @@ impl<'a> Player<'a> {
         words
     }
 
-    fn before(&self) -> Before {
-        let (root, free) = (!self.entry(0).is_free(), free::counted(self.table()));
-        Before { state: self.state(), root, free }
-    }
-
     // What stands now.
 
-    pub fn state(&self) -> bridge::State {
+    pub fn state(&self) -> State {
         self.pair.reference.state()
     }
 

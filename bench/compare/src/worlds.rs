@@ -11,6 +11,11 @@ pub fn key(player: &mut Player) -> [u64; 2] {
     [player.dice.word(), player.dice.word()]
 }
 
+/// A world of zeros.
+pub fn zeros(entries: usize, memory: u64) -> World {
+    World::zeros(entry::SIZE * entries, memory as usize)
+}
+
 /// A world before a reset: memory, and now and then table and state too, hold bytes.
 pub fn dirty(player: &mut Player, entries: usize, memory: usize) -> World {
     let mut world = World::zeros(entry::SIZE * entries, memory);

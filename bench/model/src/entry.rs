@@ -66,6 +66,12 @@ impl Raw {
         }
     }
 
+    /// A free entry with its kept tag: type 0, "all else zero".
+    #[inline]
+    pub fn free(tag: u16) -> Raw {
+        Raw([0; 4]).with_tag(tag)
+    }
+
     /// "Type 0 is free whatever its other bytes hold."
     #[inline]
     pub fn is_free(self) -> bool {

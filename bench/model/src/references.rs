@@ -50,15 +50,16 @@ impl Machine<'_> {
     ) -> Result<Answer, Refusal> {
         let count = raised(parent.entry.count)?;
         let number = self.need_number()?;
-        self.need_nonces(1)?;
-
         let token = naming(parent.number, parent.entry.tag, PARENT_ENCODING);
         let kind = Kind::Indirect(token);
         let child = Entry { base, length, count: 1, permissions, tag: 0, nonce: 0, kind };
-        let tag = self.issue_new(number, &child);
+        let child =
+            self.seek_nonce(self.state.next, number, &child, self.table.last_held(number))?;
+
+        self.issue_new(child);
         parent.entry.count = count;
         self.table.store(parent.number, parent.entry.pack());
-        Ok(Answer { first: naming(number, tag, encoding), ..Answer::GRANTED })
+        Ok(Answer { first: child.token(encoding), ..Answer::GRANTED })
     }
 
     /// "Clone adds one to the count."

@@ -1,13 +1,11 @@
 //! What the owner of a segment asks for: create, merge, revoke.
 
-use crate::check::SPENT;
 use crate::entry::{Direct, Entry, Kind};
 use crate::interface::{Answer, Request};
 use crate::machine::Machine;
 use crate::permissions::{self, lie_within};
 use crate::refusal::{need, Refusal};
 use crate::table::Met;
-use crate::token::naming;
 
 /// Place 6: "create, merge, revoke of an indirect entry".
 #[inline]
@@ -38,8 +36,6 @@ impl Machine<'_> {
         // is not yet free.
         let number = self.need_number()?;
         let length = request.length as u32;
-        let whole = length == old.length;
-        self.need_nonces(if whole { 1 } else { 2 })?;
 
         // "The part gets a new number and is issued first: count 0, the
         // request's user, the request's permissions, Lockable as before."
@@ -49,19 +45,24 @@ impl Machine<'_> {
             kind: Kind::Direct(Direct { user: request.user, ..direct }),
             ..old
         };
-        let tag = self.issue_new(number, &part);
-        let first = naming(number, tag, request.encoding);
+        let part = self.seek_nonce(self.state.next, number, &part, self.table.last_held(number))?;
 
         // "The rest keeps its number, is issued anew with base and length
         // moved; at length 0 it is freed instead."
-        let second = if whole {
-            self.free(named.number);
-            0
+        let rest = if length == old.length {
+            None
         } else {
             let rest = Entry { base: old.base + length, length: old.length - length, ..old };
-            let tag = self.issue(named.number, &rest);
-            naming(named.number, tag, request.encoding)
+            Some(self.seek_nonce(part.next, named.number, &rest, old.tag)?)
         };
+
+        self.issue_new(part);
+        match rest {
+            Some(rest) => self.issue(rest),
+            None => self.free(named.number),
+        }
+        let first = part.token(request.encoding);
+        let second = rest.map_or(0, |rest| rest.token(request.encoding));
         Ok(Answer { first, second, ..Answer::GRANTED })
     }
 
@@ -79,18 +80,17 @@ impl Machine<'_> {
         let at_rest =
             at_rest(&first.entry, &first_direct) && at_rest(&second.entry, &second_direct);
         need(at_rest, Refusal::Standing)?;
-        self.need_nonces(1)?;
-
         // Both lie inside memory, one behind the other: the sum fits.
         let both = Entry {
             length: first.entry.length + second.entry.length,
             permissions: first.entry.permissions & second.entry.permissions,
             ..first.entry
         };
-        let tag = self.issue(first.number, &both);
+        let both = self.seek_nonce(self.state.next, first.number, &both, first.entry.tag)?;
+
+        self.issue(both);
         self.free(second.number);
-        let first = naming(first.number, tag, request.encoding);
-        Ok(Answer { first, ..Answer::GRANTED })
+        Ok(Answer { first: both.token(request.encoding), ..Answer::GRANTED })
     }
 
     /// "zeros the segment and issues the same number over it: count 0, R W X,
@@ -106,22 +106,13 @@ impl Machine<'_> {
             ..old
         };
         // "Nonces whose tag equals the old one are passed over."
-        let mut nonce = self.state.next;
-        let raw = loop {
-            need(nonce < SPENT, Refusal::Nonces)?;
-            let raw = self.issued(named.number, &new, nonce);
-            nonce += 1;
-            if raw.tag() != old.tag {
-                break raw;
-            }
-        };
+        let new = self.seek_nonce(self.state.next, named.number, &new, old.tag)?;
+
         let start = old.base as usize;
         if let Some(segment) = self.memory.get_mut(start..start + old.length as usize) {
             segment.fill(0);
         }
-        self.table.store(named.number, raw);
-        self.state.next = nonce;
-        let first = naming(named.number, raw.tag(), request.encoding);
-        Ok(Answer { first, ..Answer::GRANTED })
+        self.issue(new);
+        Ok(Answer { first: new.token(request.encoding), ..Answer::GRANTED })
     }
 }

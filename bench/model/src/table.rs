@@ -64,12 +64,17 @@ impl<'a> Table<'a> {
         }
     }
 
-    /// "A free entry is type 0, all zeros."
+    /// 02, paper 5: "A freed entry now keeps its tag, all else zero."
     #[inline]
     pub fn free(&mut self, number: usize) {
-        if let Some(part) = self.parts.get_mut(number) {
-            part.fill(0);
-        }
+        self.store(number, Raw::free(self.last_held(number)));
+    }
+
+    /// The tag that a number has or, if it is free, last had. 02, paper 5: "an
+    /// entry never used counts as having held tag 0", and reset leaves that.
+    #[inline]
+    pub fn last_held(&self, number: usize) -> u16 {
+        self.parts.get(number).map_or(0, |part| Raw::load(part).tag())
     }
 
     pub fn clear(&mut self) {

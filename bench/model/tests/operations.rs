@@ -2,7 +2,7 @@
 #![allow(deprecated)]
 
 mod common;
-use common::{Rig, SPENT};
+use common::{freed, Rig, SPENT};
 use model::operation::*;
 use model::Request;
 use std::hash::{Hasher, SipHasher};
@@ -63,6 +63,7 @@ fn create_of_the_whole_frees_the_old_number() {
     rig.set(0, 206, 1, 0);
     let answer = rig.create(0, 64, 7);
     assert_eq!((answer.refusal, answer.second), (0, 0));
+    // The root's tag is 0.
     assert_eq!(rig.table[..32], [0; 32]);
     assert_eq!((rig.lockable(1), rig.state.last, rig.state.next), (0, 1, 2));
     // The freed number is given again, but the root's never.
@@ -120,7 +121,7 @@ fn merge_takes_both() {
     assert_eq!((rig.base(1), rig.length(1), rig.count(1)), (0, 32, 0));
     assert_eq!((rig.user(1), rig.permissions(1), rig.lockable(1)), (0xA, 4, 1));
     assert_eq!((rig.tag(1), rig.nonce(1)), (fresh_tag(&rig, 1), 5));
-    assert_eq!(rig.table[64..96], [0; 32]);
+    assert_eq!(rig.entry(2), freed(b.first));
     assert_eq!((merged.first, merged.second), (rig.token(1), 0));
     assert_eq!((rig.state.last, rig.state.next), (last, 6));
     // With the root as second its number is gone.
@@ -212,7 +213,8 @@ fn drop_falls_and_climbs() {
     assert_eq!(rig.simple(DROP, b).dropped, 0);
     assert_eq!((rig.count(1), rig.count(2)), (1, 1));
     assert_eq!(rig.simple(DROP, c).dropped, 1);
-    assert_eq!(rig.table[32..], [0; 224]);
+    assert_eq!(rig.table[32..128], [a, b, c].map(freed).concat());
+    assert_eq!(rig.table[128..], [0; 128]);
     assert_eq!((rig.kind(0), rig.count(0)), (1, 0));
     // A climb meets count 0.
     let (mut rig, _, _, c) = line();

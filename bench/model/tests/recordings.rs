@@ -211,11 +211,11 @@ fn replay(session: &Term, definitions: &Definitions) -> usize {
 #[test]
 fn sessions_are_served_as_recorded() {
     let definitions = recordings();
-    let lists = ["sessions", "sessionsAbove"].map(|name| definitions[name].list());
+    let lists = ["sessions", "sessionsAbove", "sessionsKept"].map(|name| definitions[name].list());
     let sessions: Vec<&Term> = lists.into_iter().flatten().collect();
     let rows: usize =
         sessions.iter().map(|name| replay(&definitions[name.word()], &definitions)).sum();
-    assert_eq!((sessions.len(), rows), (9, 265));
+    assert_eq!((sessions.len(), rows), (11, 293));
 }
 
 #[test]

@@ -1,7 +1,7 @@
 //! The session of 15 cases as 02, paper 1, changes it, and the traps.
 
 mod common;
-use common::Rig;
+use common::{freed, Rig};
 use model::operation::*;
 
 #[test]
@@ -94,7 +94,7 @@ fn a_dead_entry_is_dropped() {
     assert_eq!(rig.derive(root, 0, 8, 4).refusal, 10);
     let answer = rig.simple(DROP, child);
     assert_eq!((answer.refusal, answer.dropped), (0, 1));
-    assert_eq!(rig.table[32..], [0; 32]);
+    assert_eq!(rig.entry(1), freed(child));
     assert_eq!(rig.count(0), 0);
     assert_eq!(rig.derive(root, 0, 8, 4).refusal, 0);
 }

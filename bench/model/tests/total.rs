@@ -1,7 +1,7 @@
 //! Anything may be handed over, and an answer comes back.
 
 mod common;
-use common::{is_access, lease, record, Dice, Rig, SPENT};
+use common::{freed, is_access, lease, record, Dice, Rig, SPENT};
 use model::operation::*;
 use model::Request;
 
@@ -254,7 +254,7 @@ fn noise() {
 #[test]
 fn the_longest_line() {
     let mut rig = Rig::new(1 << 24, 1024);
-    let mut token = 0;
+    let (mut token, mut given) = (0, Vec::new());
     for _ in 1..1024 {
         let length = rig.length((token >> 32 & 0x3FFF) as usize);
         let answer = rig.derive(token, 0, length - 1, 7);
@@ -263,10 +263,14 @@ fn the_longest_line() {
             assert_eq!(rig.simple(DROP, token).dropped, 0);
         }
         token = answer.first;
+        given.push(token);
     }
+    // 02, paper 5: a number never used passes over the nonce of a tag 0.
+    assert_eq!((rig.nonce(651), rig.nonce(652), rig.state.next), (651, 653, 1_025));
     assert_eq!(rig.access(READ, token, 1, 0), 0);
     assert_eq!((rig.derive(token, 0, 1, 7).refusal, rig.state.total), (10, 0));
     assert_eq!(rig.simple(DROP, token).dropped, 1);
-    assert_eq!(rig.table[32..], [0; 32 * 1023]);
+    let kept: Vec<[u8; 32]> = given.into_iter().map(freed).collect();
+    assert_eq!(rig.table[32..], kept.concat());
     assert_eq!((rig.count(0), rig.state.total), (0, 1_023));
 }

@@ -1,5 +1,5 @@
 //! Why a request was refused, beside what is bad in its words: a note of the tool, read off its text, its
-//! leases and what stood before.
+//! leases and what stood before, the nonces left among that.
 
 use crate::{hex, shift};
 use bridge::{text_length, Buffer, Check, Operation, Words, TEXT_BYTES};
@@ -7,13 +7,17 @@ use session::entry::Entry;
 use session::play::Played;
 use session::token::Token;
 
-/// The note on a refused load or dump, or on leases; none where there is nothing to tell.
+/// The next nonce once all are used.
+const SPENT: u64 = 1 << 32;
+
+/// The note on a refused load or dump, on leases or nonces; none where there is nothing to tell.
 pub fn note(played: &Played) -> Option<String> {
     let check = Check::of(played.reply.refusal)?;
     let Words { token, second: minute, .. } = played.request;
     match check {
         Check::Lease => return shift::bad_lease(&played.leases),
         Check::Closed => return shift::closed(&played.leases, token, minute),
+        Check::Nonces => return Some(of_nonces(played)),
         _ => {}
     }
     match (Operation::of(played.request.operation)?.buffer(), check) {
@@ -21,6 +25,21 @@ pub fn note(played: &Played) -> Option<String> {
         (Buffer::Text, Check::Bounds) => of_reach(played),
         (Buffer::Front, Check::Room) => of_room(played),
         _ => None,
+    }
+}
+
+/// The nonces left, and how many are needed; those that would give the number its last tag again are
+/// passed over.
+fn of_nonces(played: &Played) -> String {
+    let left = SPENT.saturating_sub(played.before.state.next_nonce);
+    let (created, taken) = (Operation::Create as u64, played.request.length);
+    let two = played.request.operation == created && length(played) != Some(taken);
+    match (left, if two { 2 } else { 1 }) {
+        (0, _) => "none is left".to_string(),
+        (left, needed) if left < needed => format!("{left} left, and {needed} are needed"),
+        (left, _) => {
+            format!("{left} left, and those that would give the last tag again do not count")
+        }
     }
 }
 

@@ -155,6 +155,23 @@ fn sizes_and_settings_have_their_words() {
     holds("memory 8 entries 4\nstate total 9\nclone root", both);
 }
 
+/// Nonces that would give a number its last tag again are left, and do not count.
+#[test]
+fn nonces_have_their_words() {
+    let holds = |nonce: u64, line: &str, expected: &str| {
+        let reset = format!("reset key 34071 0 nonce {nonce} -> 0");
+        let answer = answer(&format!("memory 64 entries 4\n{reset}\n{line}\n"));
+        assert_eq!(answer, format!("11 too few nonces: {expected}"), "{line}");
+    };
+    let last = (1 << 32) - 1;
+    holds(last, "create root length 8 permissions R", "1 left, and 2 are needed");
+    let passed = "1 left, and those that would give the last tag again do not count";
+    holds(last, "derive root length 8 permissions RWX", passed);
+    let spent = "derive root length 9 permissions R -> 0\nderive root length 8 permissions R";
+    holds(last, spent, "none is left");
+    holds(last, "derive root length 9 permissions R -> 0\nrevoke root", "none is left");
+}
+
 #[test]
 fn leases_have_their_words() {
     let holds = |line: &str, expected: &str| {

@@ -55,6 +55,31 @@ fn segments_trees_and_locks() {
     assert_eq!(lines(&drawing), wanted, "\n{drawing}");
 }
 
+/// A free entry is told with the tag that it keeps, by the names of the token that it last had.
+#[test]
+fn kept_tags() {
+    let drawing = drawn(
+        "memory 64 entries 4
+         reset key 0 0 nonce 1 -> 0
+         derive root length 32 permissions RWX -> 0 as one
+         derive root length 16 permissions RWX -> 0
+         drop one -> 0
+         drop @2:0x3e0f -> 2",
+    );
+    let head: Vec<&str> = drawing.lines().take(4).collect();
+    let wanted = [
+        "memory   64 bytes",
+        "table    4 entries: 1 direct, 1 derived, 2 free",
+        "kept     of free numbers: #1 one tag 0xdfd4",
+        "state    last number #2 (next #3), next nonce 3, free total 2",
+    ];
+    assert_eq!(head, wanted, "\n{drawing}");
+    let many: String = (0..12).map(|number| format!("entry {number} free tag 7\n")).collect();
+    let drawing = drawn(&format!("memory 64 entries 16\n{many}"));
+    assert!(drawing.contains("#6 tag 0x0007; #7 tag 0x0007 and 4 more\n"), "{drawing}");
+    assert!(!drawn("memory 64 entries 16\n").contains("kept"));
+}
+
 #[test]
 fn gaps_overlaps_dead_and_ill_formed_entries() {
     let drawing = drawn(

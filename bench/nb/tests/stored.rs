@@ -114,7 +114,14 @@ fn each_has_a_line_on_what_it_is_about() {
 /// The keys of sessions that come about by chance are the least ones.
 #[test]
 fn searched_keys_are_found_again() {
-    let searched = ["revoke-passes-over", "revoke-passes-over-the-last", "trap-number-given-again"];
+    let searched = [
+        "revoke-passes-over",
+        "revoke-passes-over-the-last",
+        "trap-number-given-again",
+        "rest-with-tag-zero",
+        "kept-rest",
+        "kept-execute-only",
+    ];
     for stored in stored::all().iter().filter(|stored| searched.contains(&stored.name)) {
         let script = script(&stored.text);
         let key = script.session_key();

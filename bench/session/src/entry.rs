@@ -147,6 +147,17 @@ impl Entry {
         Entry::default().with(KIND, kind)
     }
 
+    /// A free entry that keeps a tag.
+    pub fn free(tag: u64) -> Entry {
+        Entry::of_kind(FREE).with(TAG, tag)
+    }
+
+    /// The tag that a free entry keeps, if all else is zero.
+    pub fn kept_tag(&self) -> Option<u64> {
+        let tag = self.get(TAG);
+        (*self == Entry::free(tag)).then_some(tag)
+    }
+
     /// A direct entry, unlocked, with count 0, R W X, Lockable.
     pub fn direct(base: u64, length: u64) -> Entry {
         let entry = Entry::of_kind(DIRECT).with(BASE, base);

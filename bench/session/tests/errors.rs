@@ -46,6 +46,8 @@ fn the_start() {
     holds("entry 4 free", 9, "a number from 0 to 3");
     holds("entry 3", 10, "'free', 'direct', 'indirect', 'bytes'");
     holds("entry 3 count 5", 11, "'free', 'direct', 'indirect' or 'bytes'");
+    holds("entry 3 free count 1", 16, "a field of the entry's type");
+    holds("entry 3 free tag 65536", 20, "a number from 0 to 65535");
     holds("entry 3 direct parent root", 18, "a field of the entry's type");
     holds("entry 3 direct base 1 base 1", 25, "each once");
     holds("entry 3 direct count 65536", 24, "a number from 0 to 65535");

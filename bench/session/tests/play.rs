@@ -31,6 +31,18 @@ fn as_expected() {
     assert_eq!(differences("drop root -> 9\n= entry 1 free"), [""; 0]);
 }
 
+/// A freed entry keeps its tag, and is stated with it.
+#[test]
+fn a_freed_entry() {
+    let freed = "derive root length 4 permissions R -> 0 as child=@1:0xab4a\ndrop child -> 0\n";
+    let stated = |line: &str| differences(&format!("{freed}= entry 1 {line}"));
+    assert_eq!(stated("free tag 0xab4a"), [""; 0]);
+    let wrong = ["what stands: entry 1 free / entry 1 free tag 0xab4a"];
+    assert_eq!(stated("free"), wrong);
+    assert_eq!(stated("free tag 0"), wrong);
+    assert_eq!(differences(&format!("{freed}reset nonce 1 -> 0\n= entry 1 free")), [""; 0]);
+}
+
 #[test]
 fn what_differs_is_told() {
     let refusal = ["refusal: 5 (locked for another task) / 0 (granted)"];

@@ -3,6 +3,7 @@
 mod common;
 use bridge::{Check, Lease, Operation, Token, WEEK};
 use common::Dice;
+use session::entry::{self, Entry};
 use session::text::{parse, print, print_with};
 use session::{Session, World};
 
@@ -72,6 +73,19 @@ fn sessions_as_served() {
         leased += text.matches("=0..10079").filter(|_| text.contains("leases child")).count();
     }
     assert!(named > 100 && leased > 100, "{named} {leased}");
+}
+
+/// A free entry is written by its tag, if it has no other bytes.
+#[test]
+fn free_entries() {
+    let mut world = World::zeros(4 * 32, 16);
+    Entry::free(0x4a52).store(&mut world.table, 1);
+    Entry::free(0x4a52).with(entry::NONCE, 1).store(&mut world.table, 2);
+    let session = Session { world, steps: Vec::new() };
+    let text = print(&session);
+    assert!(read_again(&text) == session, "{text}");
+    let lines: Vec<&str> = text.lines().skip(1).collect();
+    assert_eq!(lines, ["entry 1 free tag 0x4a52", "entry 2 bytes 00*26 4a5200000001"]);
 }
 
 #[test]

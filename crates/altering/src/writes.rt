@@ -5,7 +5,9 @@ use layout::entry::free_words;
 use layout::entry::issued_direct;
 use layout::entry::recounted;
 use layout::entry::relocked;
+use layout::entry::tag_of;
 use table::entries::put_words;
+use table::entries::words_at;
 use table::state::StateWords;
 ghost use mathlib.Core.Path.{_≡_};
 ghost use Prim.Native.Nat.{_+_, _*_, _^_, _≤_, _<_};
@@ -34,12 +36,14 @@ fn one_more(total: u64, n: usize, top: u64) -> u64
     if total < top { total + 1 } else { total }
 }
 
-// The entry of number n becomes a free one; the total of free numbers is the caller's to correct.
+// The entry of number n becomes a free one that keeps its tag; the total of free numbers is the
+// caller's to correct.
 pub fn empty(table: &mut [u8], n: usize)
     requires { ⌜ 32 * n + 32 ≤ length (now table) ⌝ }
     ensures { λ _. ⌜ now (table .exit) ≡ write.vacated (now (table .entry)) n ⌝ }
 {
-    put_words(table, n, free_words());
+    let tag = tag_of(words_at(table, n));
+    put_words(table, n, free_words(tag));
 }
 
 // The entry of number n is freed. It is handed the total of free numbers, and gives the total after.

@@ -11,7 +11,7 @@ use lib.Dec.{eqb, leb, ltb}
 use lib.ListN.{length}
 use borrow.Author.Tests.{eqb-false, eqb-true, le-leb, le-ltb, lt-leb, lt-ltb, ltb-false, ltb-true, ne-eqb, not-true}
 use Rattle.bits.proofs.TestLaws.{both}
-use Rattle.layout.specs.Entry.{free, recounted}
+use Rattle.layout.specs.Entry.{recounted}
 use Rattle.layout.specs.declared.entry.Entry.{Entry}
 use Rattle.machine.specs.Line.{linked, parentNumber}
 use Rattle.machine.specs.Operations.{climb}
@@ -19,7 +19,7 @@ use Rattle.machine.specs.Parts.{at, mostFree, put, size, State, totalled}
 use Rattle.machine.specs.Writes.{oneMore, opened, vacate, vacated, Write, written}
 use Rattle.machine.proofs.Choices.{by-both, by-cond}
 use Rattle.machine.proofs.Fuel.{climb-fuel}
-use Rattle.machine.proofs.TableLaws.{at-other, length-put}
+use Rattle.machine.proofs.TableLaws.{length-put, vacated-other}
 use Rattle.table.proofs.LineLaws.{walk-in, walk-less}
 use Rattle.table.specs.Left.{Left, leftBy}
 use Rattle.climbs.specs.Climbs.{Ahead, Climbed, climbed, Climbs, countOf, leaving, Onward, Packs, raised, yet}
@@ -214,7 +214,7 @@ module _ (k : ℕ) (t : List ℕ) (n : ℕ) (e : Entry) (b : Bool) (k′ : ℕ) 
     older =
         let o : at t p .nonce < at t n .nonce = walk-less t n p e b is link q l in
         let apart : p ≢ n = λ r. omega (arith, ap (λ (k : ℕ). at t k .nonce) r) in
-        rw (gone, at-other t n p free apart) o
+        rw (gone, vacated-other t n p apart) o
 
     onward : Onward k t n k′ t′ p
     onward =
@@ -232,7 +232,7 @@ module _ (t : List ℕ) (n : ℕ) (e : Entry) (b : Bool) (t′ : List ℕ) (is :
   to k = raise-one (mostFree t) n k
 
   long : length t′ ≡ length t
-  long = rw gone (length-put t n free)
+  long = rw gone (length-put t n _)
 
   -- i were freed before, and then c is as many as are freed now
   module _ (i c : ℕ) (few : i ≤ 7) (more : c ≡ i + countOf n) where

@@ -10,7 +10,7 @@ use lib.Dec.{ltb}
 use borrow.Author.Tests.{ltb-true}
 use Rattle.bits.specs.Bytes.{AllBytes, bytes, lowBytes, lowNumber, number}
 use Rattle.bits.specs.SipHash.{absorb, add64, compress, finish, padded, rotl, siphash, sipRound, word}
-use Rattle.layout.specs.Entry.{directNumber, directOf, entryNumber, entryOf, indirectNumber, indirectOf}
+use Rattle.layout.specs.Entry.{directNumber, directOf, entryNumber, entryOf, freeNumber, indirectNumber, indirectOf}
 use Rattle.layout.specs.Form.{illFormed}
 use Rattle.layout.specs.Tag.{tagOf}
 use Rattle.leases.specs.Lease.{allSound, covers, firstLeases, isOpen, leaseAt, leasesOf}
@@ -29,7 +29,7 @@ use Rattle.demands.specs.Demands.{after, asks, Brought, Copies, Demand3,
 use Rattle.demands.specs.Example.{before, broken, ByEither, child, derives, First, first, lastMinute, Lending, listOf, locks7, Premises, reads8, resets1, revokes}
 use Rattle.interface.proofs.PlainLaws.{plain}
 use Rattle.interface.specs.Exported.{Asked, asked, exported, known, picked, Plain, told, unknown, wordBytes}
-use Rattle.demands.proofs.Secrecy.{secrecy}
+use Rattle.demands.proofs.Secrecy.{given-again, secrecy}
 
 -- ---- what is needed to see it
 
@@ -67,7 +67,7 @@ each P k h r e = subst (Each P) e h
 
 -- with a broken call in the first list, and a read by 8 before the revoke, which is refused; the revoke gives the root alone
 pub premises : Premises before first (reads8 ∷ []) revokes (resets1 ∷ []) derives (broken ∷ locks7 ∷ reads8 ∷ []) child
-unfolding before bytes number lowBytes lowNumber directNumber directOf entryNumber entryOf indirectNumber indirectOf illFormed allSound covers firstLeases isOpen leaseAt leasesOf within absorb add64 compress finish padded rotl siphash sipRound word tagOf passOver seek walk at cleared put size decide step answer asked exported picked told wordBytes allBytes
+unfolding before bytes number lowBytes lowNumber directNumber directOf entryNumber entryOf freeNumber indirectNumber indirectOf illFormed allSound covers firstLeases isOpen leaseAt leasesOf within absorb add64 compress finish padded rotl siphash sipRound word tagOf passOver seek walk at cleared put size decide step answer asked exported picked told wordBytes allBytes
 premises = record {
   bytes = bytes-zeros 40;
   granted = record { request = reset 0 0 1; asked = refl; such = claim.resets; granted = refl };
@@ -81,7 +81,7 @@ premises = record {
   whole = refl;
   given = List·Memᴰ·head refl;
   under = record { owner = 0; owns = above {n = 1} {m = 0} (record { indirect = refl; holds = refl }) (itself refl); byte = 2; theirs = omega arith; ours = omega arith };
-  once = λ h. other (List·Memᴰ·cases-cons h);
+  once = λ h. other (List·Memᴰ·cases-cons (given-again (next (after before (resets1 ∷ [])) derives) (broken ∷ locks7 ∷ reads8 ∷ revokes ∷ []) child h));
 }
   where
     no-derive : IsReset (derive 0 2 3 4 0) → ⊥
@@ -109,7 +109,7 @@ child-shut = shut-by before first (reads8 ∷ []) revokes (resets1 ∷ []) deriv
 
 -- calls with leases
 pub lends : Lending
-unfolding Lending before bytes number lowBytes lowNumber directNumber directOf entryNumber entryOf indirectNumber indirectOf illFormed allSound covers firstLeases isOpen leaseAt leasesOf within absorb add64 compress finish padded rotl siphash sipRound word tagOf passOver seek walk at cleared put size decide step answer asked exported picked told wordBytes allBytes
+unfolding Lending before bytes number lowBytes lowNumber directNumber directOf entryNumber entryOf freeNumber indirectNumber indirectOf illFormed allSound covers firstLeases isOpen leaseAt leasesOf within absorb add64 compress finish padded rotl siphash sipRound word tagOf passOver seek walk at cleared put size decide step answer asked exported picked told wordBytes allBytes
 lends = refl
 
 pub by-either : ByEither

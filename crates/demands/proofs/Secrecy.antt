@@ -2,7 +2,8 @@
 -- Assumes nothing.
 use mathlib.Core.Path.{_≡_, refl, sym, ap, ap₂, subst, _∙_}
 use mathlib.Core.Bool.{cond}
-use mathlib.Core.List.{List, [], _∷_, _++_, List·Memᴰ, List·Memᴰ·not-nil}
+use mathlib.Core.Logic.{_⊎_, inl, inr}
+use mathlib.Core.List.{List, [], _∷_, _++_, List·Memᴰ, List·Memᴰ·not-nil, Memᴰ·append-right}
 use Prim.Native.Nat.{ℕ, _^_, _≤_, _<_}
 use native.Mathlib.Nat.{mod-eq-of-lt}
 use native.Mathlib.Omega.{arith}
@@ -23,7 +24,7 @@ use Rattle.machine.specs.Writes.{Name}
 use Rattle.machine.proofs.Decided.{accepted, away, taken, Turned, turned}
 use Rattle.machine.proofs.Given.{given}
 use Rattle.machine.proofs.Theorem.{demand3}
-use Rattle.demands.specs.Demands.{after, asks, Back, backBy, backs, Brought, Bytes, call, callOf, Copies, Demand3, FirstRevoke, givenBy, givenIn, gives, joined, machine, Never, next, rootIn, Secret, Shut, Standing, tokensIn, Without}
+use Rattle.demands.specs.Demands.{after, asks, Back, backBy, backs, Brought, Bytes, call, callOf, Copies, Demand3, FirstRevoke, givenBy, givenIn, gives, joined, machine, Never, next, Returns, rootIn, Secret, Shut, Standing, tokensIn, Without}
 use Rattle.interface.specs.Exported.{answerBytes, Asked, carried, Exported, known, stateBytes, stateOf, told, unknown, wordBytes}
 use Rattle.interface.proofs.CallLaws.{known-sizes}
 use Rattle.demands.proofs.Listed.{ask, asks-alone, by-calls, bytes-append, bytes-parts, called-as, first, Kind, kind-of, other, requests-append, requestsOf, steps-to, Tracked, tracks, Whole, whole-bytes}
@@ -101,6 +102,26 @@ given-list =
     by-calls (λ κ qs cs. givenIn κ qs ≡ issuedIn (machine κ) cs) (λ κ w. refl)
     (λ κ q r qs cs w h m t. ap₂ _++_ (issued-by κ q (known r) h) (t ∙ ap (λ (σ : Machine). issuedIn σ cs) m))
     (λ κ q qs cs w h m t. ap₂ _++_ (issued-by κ q unknown h) (t ∙ ap (λ (κ : Standing). issuedIn (machine κ) cs) m))
+
+-- a token that returns by their requests returns by them
+returns-list : (k : Name) (κ : Standing) (qs : List Brought) → Whole κ → Bytes qs → (givenIn κ qs ≡ issuedIn (machine κ) (requestsOf qs)) × (claim.Returns (machine κ) (requestsOf qs) k → Returns κ qs k)
+unfolding issuedBy
+returns-list k =
+    by-calls (λ κ qs cs. (givenIn κ qs ≡ issuedIn (machine κ) cs) × (claim.Returns (machine κ) cs k → Returns κ qs k)) (λ κ w. (refl, λ h. h))
+    (λ κ q r qs cs w h m t.
+    let all : givenIn κ (q ∷ qs) ≡ issuedIn (machine κ) (callOf r q ∷ cs) = ap₂ _++_ (issued-by κ q (known r) h) (t .0 ∙ ap (λ (σ : Machine). issuedIn σ cs) m) in
+    (all, later κ q r qs cs all (λ x. t .1 (subst (λ (σ : Machine). claim.Returns σ cs k) (sym m) x))))
+    (λ κ q qs cs w h m t. (ap₂ _++_ (issued-by κ q unknown h) (t .0 ∙ ap (λ (κ : Standing). issuedIn (machine κ) cs) m), λ x. inr (t .1 (subst (λ (κ : Standing). claim.Returns (machine κ) cs k) (sym m) x))))
+  where
+    later : (κ : Standing) (q : Brought) (r : Request) (qs : List Brought) (cs : List Call) → givenIn κ (q ∷ qs) ≡ issuedIn (machine κ) (callOf r q ∷ cs)
+        → (claim.Returns (step (machine κ) (callOf r q)) cs k → Returns (next κ q) qs k) → claim.Returns (machine κ) (callOf r q ∷ cs) k → Returns κ (q ∷ qs) k
+    later κ q r qs cs all f (inl h) = inl (h .0, subst (List·Memᴰ k) (sym all) (h .1))
+    later κ q r qs cs all f (inr h) = inr (f h)
+
+-- and one that returns by them is given by them
+pub given-again : (κ : Standing) (qs : List Brought) (k : Name) → Returns κ qs k → List·Memᴰ k (givenIn κ qs)
+given-again κ (q ∷ qs) k (inl h) = h .1
+given-again κ (q ∷ qs) k (inr h) = Memᴰ·append-right (gives κ q) (given-again (next κ q) qs k h)
 
 -- what they hand back, by the machine's answers
 handed : Asked → Brought → List Answer → (List Answer → List Back) → List Back
@@ -218,7 +239,7 @@ module _ (κ : Standing) (h : List Brought) (H : List Call) (s : ℕ) (e : Entry
 
       -- the token was given by a request
       closed-known : (p : Request) → asks (after κ a) q ≡ known p → List·Memᴰ k (gives (after κ a) q) → Under (next (after κ a) q .table) e k
-          → (List·Memᴰ k (givenIn (next (after κ a) q) (b ++ (r ∷ zs))) → ⊥) → Closed (run (step (run (machine κ₁) (requestsOf qs)) revoke) (requestsOf zs)) k
+          → (Returns (next (after κ a) q) (b ++ (r ∷ zs)) k → ⊥) → Closed (run (step (run (machine κ₁) (requestsOf qs)) revoke) (requestsOf zs)) k
       unfolding issuedBy
       closed-known p ha m u again =
           let c : Call = callOf p q in
@@ -230,14 +251,15 @@ module _ (κ : Standing) (h : List Brought) (H : List Call) (s : ℕ) (e : Entry
           let m-q = steps-to (after κ a) q p (ta .whole) (parts .1 .0) ha in
           let at-q : machine (next (after κ a) q) ≡ step (run (machine κ) (requestsOf a)) c = m-q .0 ∙ ap (λ (σ : Machine). step σ c) (ta .left) in
           let issued : gives (after κ a) q ≡ decision (run (machine κ) (requestsOf a)) c .issued = issued-by (after κ a) q (known p) ha ∙ ap (λ (σ : Machine). decision σ c .issued) (ta .left) in
-          let later : givenIn (next (after κ a) q) (b ++ (r ∷ zs)) ≡ issuedIn (step (run (machine κ) (requestsOf a)) c) (requestsOf b ++ (revoke ∷ requestsOf zs)) =
-          given-list (next (after κ a) q) (b ++ (r ∷ zs)) (m-q .1) (bytes-append b (r ∷ zs) (parts .1 .1) bz) ∙ ap₂ issuedIn at-q list-b in
+          let same : claim.Returns (machine (next (after κ a) q)) (requestsOf (b ++ (r ∷ zs))) k ≡ claim.Returns (step (run (machine κ) (requestsOf a)) c) (requestsOf b ++ (revoke ∷ requestsOf zs)) k =
+          ap₂ (λ (σ : Machine) (cs : List Call). claim.Returns σ cs k) at-q list-b in
+          let later = returns-list k (next (after κ a) q) (b ++ (r ∷ zs)) (m-q .1) (bytes-append b (r ∷ zs) (parts .1 .1) bz) .1 in
           z .closed revoke (first-revoke r f) (requestsOf zs) unreset (requestsOf a) c (requestsOf b) (sym list-a ∙ ap requestsOf whole ∙ list-h) k
           (subst (List·Memᴰ k) issued m)
           (subst (λ (σ : Machine). Under (σ .table) e k) at-q u)
-          (λ i. again (subst (List·Memᴰ k) (sym later) i))
+          (λ i. again (later (subst (λ (X : Type 0). X) (sym same) i)))
 
-      closed-calls : List·Memᴰ k (gives (after κ a) q) → Under (next (after κ a) q .table) e k → (List·Memᴰ k (givenIn (next (after κ a) q) (b ++ (r ∷ zs))) → ⊥)
+      closed-calls : List·Memᴰ k (gives (after κ a) q) → Under (next (after κ a) q .table) e k → (Returns (next (after κ a) q) (b ++ (r ∷ zs)) k → ⊥)
           → Shut (after (next (after κ₁ qs) r) zs) k
       unfolding issuedBy
       closed-calls m u again = go (asks (after κ a) q) refl

@@ -3,7 +3,7 @@
 -- function, leases, of any bytes and any lengths. A call that is broken or names no operation is a refused request like others.
 -- Assumes nothing.
 use mathlib.Core.Path.{_≡_}
-use mathlib.Core.Logic.{_≢_}
+use mathlib.Core.Logic.{_≢_, _⊎_}
 use mathlib.Core.Bool.{cond}
 use mathlib.Core.List.{List, [], _∷_, _++_, List·Memᴰ}
 use Prim.Native.Nat.{ℕ}
@@ -12,7 +12,7 @@ use lib.ListN.{drop, getD, length, replicate, take}
 use Rattle.bits.specs.SipHash.{word}
 use Rattle.layout.specs.declared.entry.Entry.{Entry}
 use Rattle.tokens.specs.Token.{named}
-use Rattle.machine.specs.Demand3.{In, IsReset, LockedFor, Revokes, Under}
+use Rattle.machine.specs.Demand3.{HoldsOther, In, IsReset, LockedFor, Revokes, Under}
 use Rattle.machine.specs.Given.{nameIn}
 use Rattle.bits.specs.Bytes.{AllBytes}
 use Rattle.machine.specs.Parts.{at}
@@ -173,6 +173,11 @@ abbrev pub givenIn : Standing → List Brought → List Name
 givenIn κ [] = []
 givenIn κ (q ∷ qs) = gives κ q ++ givenIn (next κ q) qs
 
+-- 02, paper 5: the token k returns by the calls qs: at some time its number holds another tag, and the calls from then on give k
+abbrev pub Returns : Standing → List Brought → Name → Type 0
+Returns κ [] k = ⊥
+Returns κ (q ∷ qs) k = (HoldsOther (κ .table) k × List·Memᴰ k (givenIn κ (q ∷ qs))) ⊎ Returns (next κ q) qs k
+
 -- after the calls qs, of which none is a granted revoke of entry s, the call r is one
 pub record FirstRevoke (κ : Standing) (s : ℕ) (qs : List Brought) (r : Brought) : Type 0 where
   pub before : Never (λ p. Revokes p s) κ qs
@@ -196,14 +201,15 @@ pub record Secret (κ : Standing) (h : List Brought) (s : ℕ) (e : Entry) (κ�
   -- "That revoke turns all of it to zeros,"
   pub wiped : (r : Brought) → FirstRevoke κ₁ s qs r → take (e .length) (drop (e .base) (next (after κ₁ qs) r .memory)) ≡ replicate (e .length) 0
   -- "and from then on, whatever requests but a reset follow, also ones carrying t, no token given before the revoke for the segment or derived
-  -- under it opens an access, unless the same number and tag were issued again after that token was given." The token k was given by the call q; zs
-  -- is what follows the revoke r.
+  -- under it opens an access, unless the same number and tag were issued again after that token was given." 02, paper 5: "The exception for reissued tokens in the
+  -- lock's guarantee remains only where the number held another tag between the token's giving and its issuing again." The token k was given by the call q; zs is
+  -- what follows the revoke r.
   pub closed :
       (r : Brought) → FirstRevoke κ₁ s qs r → (zs : List Brought) → Bytes (r ∷ zs) → Never IsReset (next (after κ₁ qs) r) zs
       → (a : List Brought) (q : Brought) (b : List Brought) → a ++ (q ∷ b) ≡ h ++ qs
       → (k : Name) → List·Memᴰ k (gives (after κ a) q)
       → Under (next (after κ a) q .table) e k
-      → (List·Memᴰ k (givenIn (next (after κ a) q) (b ++ (r ∷ zs))) → ⊥)
+      → (Returns (next (after κ a) q) (b ++ (r ∷ zs)) k → ⊥)
       → Shut (after (next (after κ₁ qs) r) zs) k
 
 unfoldable pub Demand3 : Type 0

@@ -8,7 +8,7 @@ use Rattle.machine.specs.Demand3.{IsReset, LockedFor, Under}
 use Rattle.bits.specs.Bytes.{AllBytes}
 use Rattle.machine.specs.Parts.{at}
 use Rattle.machine.specs.Writes.{Name}
-use Rattle.demands.specs.Demands.{after, Brought, Bytes, call, FirstRevoke, givenIn, gives, Grants, machine, Never, next, Standing, Without}
+use Rattle.demands.specs.Demands.{after, Brought, Bytes, call, FirstRevoke, gives, Grants, machine, Never, next, Returns, Standing, Without}
 use Rattle.interface.specs.Exported.{noLeases, withLeases, wordBytes}
 
 -- ---- the premises of demand 3, in one place
@@ -23,7 +23,7 @@ pub record First : Type 0 where
 abbrev pub listOf : First → List Brought
 listOf f = f .reset ∷ f .follows
 
--- further calls qs and the revoke r; the token k that the call q gave, with a before q and b after it, and that was not given again
+-- further calls qs and the revoke r; the token k that the call q gave, with a before q and b after it, and that did not return
 pub record Premises (κ : Standing) (f : First) (qs : List Brought) (r : Brought) (a : List Brought) (q : Brought) (b : List Brought) (k : Name) : Type 0 where
   pub bytes : AllBytes (κ .state)
   pub granted : Grants IsReset κ (f .reset)
@@ -37,7 +37,7 @@ pub record Premises (κ : Standing) (f : First) (qs : List Brought) (r : Brought
   pub whole : a ++ (q ∷ b) ≡ listOf f ++ qs
   pub given : List·Memᴰ k (gives (after κ a) q)
   pub under : Under (next (after κ a) q .table) (at (after κ (listOf f) .table) (f .entry)) k
-  pub once : List·Memᴰ k (givenIn (next (after κ a) q) (b ++ (r ∷ []))) → ⊥
+  pub once : Returns (next (after κ a) q) (b ++ (r ∷ [])) k → ⊥
 
 -- ---- the calls
 

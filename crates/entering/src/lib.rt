@@ -1,2 +1,3 @@
-// Entering: an entry gets its tag under its number and is stored; the search for another nonce.
+// Entering: an entry gets its tag under its number and is stored; and the search for its nonce.
 pub mod issue;
+pub mod nonces;

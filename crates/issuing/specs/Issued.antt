@@ -1,15 +1,12 @@
 -- What an issue leaves, and what it needs.
 -- Assumes nothing.
-use mathlib.Core.Path.{_≡_}
 use mathlib.Core.List.{List, [], _∷_}
-use Prim.Native.Nat.{ℕ, _+_, _*_, _≤_, _<_}
-use lib.ListN.{length}
-use Rattle.entering.specs.declared.issue.Renewed.{Renewed}
-use Rattle.layout.specs.Entry.{dated, Laid}
+use Prim.Native.Nat.{ℕ, _≤_, _<_}
+use Rattle.entering.specs.Nonces.{Finds, FindsTwo, Issuable}
+use Rattle.entering.specs.declared.nonces.Found.{Found}
+use Rattle.entering.specs.declared.nonces.FoundTwo.{FoundTwo}
 use Rattle.layout.specs.declared.entry.Entry.{Entry}
-use Rattle.machine.specs.Issuing.{issue}
 use Rattle.machine.specs.Parts.{spent, State}
-use Rattle.machine.specs.Writes.{otherNonce}
 use Rattle.table.specs.Left.{Left}
 use Rattle.table.specs.States.{stateAs}
 use Rattle.issuing.specs.declared.writes.Issued.{Issued}
@@ -21,16 +18,19 @@ issuedAs r t = record { state = stateAs (r .state); table = t; tokens = r .token
 abbrev pub issuedTwoAs : IssuedTwo → List ℕ → Left
 issuedTwoAs r t = record { state = stateAs (r .state); table = t; tokens = r .first ∷ r .second ∷ [] }
 
--- what must hold for the entry e to be issued under number n
-pub record Issues (s : State) (t : List ℕ) (n : ℕ) (e : Entry) (encoding : ℕ) : Type 0 where
-  pub inside : 32 * n + 32 ≤ length t
+-- the entry e is issued under number n with the nonce that was found for it
+pub record Issues (s : State) (t : List ℕ) (n : ℕ) (e : Entry) (new : Found) (encoding : ℕ) : Type 0 where
+  pub issuable : Issuable t n e
   pub small : n < 1024
-  pub laid : Laid (e .kind)
   pub encoded : encoding ≤ 3
-  pub left : s .next < spent
+  pub found : Finds s t n e new
+  pub left : new .nonce < spent
 
--- the nonce that passes over the old tag, and the tag that it gives
-pub record Renews (s : State) (t : List ℕ) (n : ℕ) (e : Entry) (new : Renewed) : Type 0 where
-  pub nonce : new .nonce ≡ otherNonce s t n (dated e)
-  pub below : new .nonce < spent
-  pub tag : new .tag ≡ issue s n (dated e (new .nonce)) .tag
+-- e under number n, and then f under number k
+pub record IssuesTwo (s : State) (t : List ℕ) (n : ℕ) (e : Entry) (k : ℕ) (f : Entry) (new : FoundTwo) (encoding : ℕ) : Type 0 where
+  pub first : Issuable t n e
+  pub second : Issuable t k f
+  pub small : (n < 1024) × (k < 1024)
+  pub encoded : encoding ≤ 3
+  pub found : FindsTwo s t n e k f new
+  pub left : new .second .nonce < spent

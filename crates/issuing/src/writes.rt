@@ -1,19 +1,16 @@
-// Writes that issue: the entries get their tags, and the state's counters move.
-use entering::issue::Renewed;
+// Writes that issue: the entries are stored with the nonces and tags that were found for them, and
+// the state's counters move.
 use entering::issue::enter;
-use entering::issue::tag_under;
+use entering::nonces::Found;
+use entering::nonces::FoundTwo;
 use layout::entry::Words;
 use table::state::StateWords;
-use tags::tag::stamped;
-use tags::tag::two_tags;
 ghost use mathlib.Core.Path.{_≡_};
 ghost use mathlib.Core.List.{[], _∷_};
-ghost use Prim.Native.Nat.{_+_};
 ghost use Rattle.layout.specs.Entry.{dated, entryOf, wordsNumber};
 ghost use Rattle.machine.specs.Issuing.{newNumber};
-ghost use Rattle.machine.specs.Parts.{moved};
 ghost use Rattle.machine.specs.Writes as write;
-ghost use Rattle.issuing.specs.Issued.{Issues, issuedAs, issuedTwoAs, Renews};
+ghost use Rattle.issuing.specs.Issued.{Issues, issuedAs, IssuesTwo, issuedTwoAs};
 ghost use Rattle.table.specs.Left.{leftBy};
 ghost use Rattle.table.specs.States.{stateAs};
 
@@ -30,30 +27,40 @@ fn one_less(total: u64) -> u64
     if total == 0 { 0 } else { total - 1 }
 }
 
-// The entry whose words are w is issued with the next nonce under the new number n.
-pub fn give(mut s: StateWords, table: &mut [u8], n: usize, w: Words, encoding: u64) -> Issued
-    requires { ⌜ Issues (stateAs s) (now table) n (entryOf (wordsNumber w)) encoding ⌝ }
+// The entry whose words are w is issued under the new number n.
+pub fn give(
+    mut s: StateWords,
+    table: &mut [u8],
+    n: usize,
+    w: Words,
+    new: Found,
+    encoding: u64,
+) -> Issued
+    requires { ⌜ Issues (stateAs s) (now table) n (entryOf (wordsNumber w)) new encoding ⌝ }
     requires { ⌜ n ≡ newNumber (stateAs s) (now table) ⌝ }
     ensures { λ r. ⌜ issuedAs r (now (table .exit)) ≡ leftBy (write.write encoding (write.opened (stateAs s) (now (table .entry))) (write.give (dated (entryOf (wordsNumber w))))) ⌝ }
 {
-    let nonce = s.next as u32;
-    let t = tag_under(s, n, w, nonce);
-    let token = enter(table, n, w, nonce, t, encoding);
+    let token = enter(table, n, w, new.nonce as u32, new.tag, encoding);
     s.last = n as u64;
-    s.next += 1;
+    s.next = new.nonce + 1;
     s.total = one_less(s.total);
     Issued { state: s, token }
 }
 
-// It is issued anew, with the next nonce, under its number n.
-pub fn reissue(mut s: StateWords, table: &mut [u8], n: usize, w: Words, encoding: u64) -> Issued
-    requires { ⌜ Issues (stateAs s) (now table) n (entryOf (wordsNumber w)) encoding ⌝ }
+// It is issued anew under its number n.
+pub fn reissue(
+    mut s: StateWords,
+    table: &mut [u8],
+    n: usize,
+    w: Words,
+    anew: Found,
+    encoding: u64,
+) -> Issued
+    requires { ⌜ Issues (stateAs s) (now table) n (entryOf (wordsNumber w)) anew encoding ⌝ }
     ensures { λ r. ⌜ issuedAs r (now (table .exit)) ≡ leftBy (write.write encoding (write.opened (stateAs s) (now (table .entry))) (write.reissue n (dated (entryOf (wordsNumber w))))) ⌝ }
 {
-    let nonce = s.next as u32;
-    let t = tag_under(s, n, w, nonce);
-    let token = enter(table, n, w, nonce, t, encoding);
-    s.next += 1;
+    let token = enter(table, n, w, anew.nonce as u32, anew.tag, encoding);
+    s.next = anew.nonce + 1;
     Issued { state: s, token }
 }
 
@@ -64,55 +71,31 @@ pub struct IssuedTwo {
     pub second: u64,
 }
 
-// The first is given the new number n, then the second is issued anew under its number k; both tags
-// are computed at once.
+// The first is given the new number, then the second is issued anew under its number k.
 pub fn give_and_reissue(
     mut s: StateWords,
     table: &mut [u8],
-    n: usize,
+    number: usize,
     first: Words,
     k: usize,
     second: Words,
+    new: FoundTwo,
     encoding: u64,
 ) -> IssuedTwo
-    requires { ⌜ Issues (stateAs s) (now table) n (entryOf (wordsNumber first)) encoding ⌝ }
-    requires { ⌜ n ≡ newNumber (stateAs s) (now table) ⌝ }
-    requires { ⌜ Issues (moved (stateAs s) n (s .next + 1) (write.oneLess (s .total))) (now table) k (entryOf (wordsNumber second)) encoding ⌝ }
+    requires { ⌜ IssuesTwo (stateAs s) (now table) number (entryOf (wordsNumber first)) k (entryOf (wordsNumber second)) new encoding ⌝ }
+    requires { ⌜ number ≡ newNumber (stateAs s) (now table) ⌝ }
     ensures { λ r. ⌜ issuedTwoAs r (now (table .exit)) ≡ leftBy (write.written encoding (write.opened (stateAs s) (now (table .entry))) (write.give (dated (entryOf (wordsNumber first))) ∷ write.reissue k (dated (entryOf (wordsNumber second))) ∷ [])) ⌝ }
 {
-    let nonce = s.next as u32;
-    let later = (s.next + 1) as u32;
-    let new = n as u64;
-    let one = stamped(first, 0, nonce);
-    let two = stamped(second, 0, later);
-    let t = two_tags(s.key0, s.key1, one, new, two, k as u64);
-    let given = enter(table, n, first, nonce, t.first, encoding);
-    let reissued = enter(table, k, second, later, t.second, encoding);
-    s.last = new;
-    s.next = s.next + 1 + 1;
+    let one = new.first;
+    let two = new.second;
+    let given = enter(table, number, first, one.nonce as u32, one.tag, encoding);
+    let reissued = enter(table, k, second, two.nonce as u32, two.tag, encoding);
+    s.last = number as u64;
+    s.next = two.nonce + 1;
     s.total = one_less(s.total);
     IssuedTwo {
         state: s,
         first: given,
         second: reissued,
     }
-}
-
-// The entry whose words are w is issued anew under its number n with the nonce and the tag that a
-// search has found.
-pub fn renew(
-    mut s: StateWords,
-    table: &mut [u8],
-    n: usize,
-    w: Words,
-    new: Renewed,
-    encoding: u64,
-) -> Issued
-    requires { ⌜ Issues (stateAs s) (now table) n (entryOf (wordsNumber w)) encoding ⌝ }
-    requires { ⌜ Renews (stateAs s) (now table) n (entryOf (wordsNumber w)) new ⌝ }
-    ensures { λ r. ⌜ issuedAs r (now (table .exit)) ≡ leftBy (write.write encoding (write.opened (stateAs s) (now (table .entry))) (write.renew n (dated (entryOf (wordsNumber w))))) ⌝ }
-{
-    let token = enter(table, n, w, new.nonce as u32, new.tag, encoding);
-    s.next = new.nonce + 1;
-    Issued { state: s, token }
 }

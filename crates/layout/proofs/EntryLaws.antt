@@ -4,7 +4,7 @@ use mathlib.Core.Path.{_≡_, refl, sym, _∙_, ap, subst}
 use mathlib.Core.Bool.{Bool, true, false}
 use mathlib.Core.List.{List, [], _∷_}
 use Prim.Native.Nat.{ℕ, zero, suc, _+_, _*_, _/_, _%_, _^_, _<_}
-use native.Mathlib.Nat.{div-one, mod-lt, mod-eq-of-lt, mul-one, add-zero, div-add-mod'}
+use native.Mathlib.Nat.{div-one, mod-lt, mod-eq-of-lt, mul-one, add-zero, zero-add, zero-mul, div-add-mod'}
 use native.Mathlib.Omega.{arith}
 use lib.Arith.{digits-lt}
 use lib.Pow.{mod-pow-add, pow-add, pow-pos, shr-lt, shr-mod}
@@ -12,7 +12,7 @@ use lib.Dec.{eqb, lit<, ltb}
 use lib.ListN.{getD, drop}
 use borrow.Author.Tests.{ltb-true}
 use Rattle.bits.specs.Fields.{bits, pack, unpack, Fit}
-use Rattle.layout.specs.Entry.{direct, free, indirect, wordWidths, wordList, wordsNumber, bit, endWidths, endFields, endFrom, directWidths, directFields, directNumber, directFrom, directOf, indirectWidths, indirectFields, indirectNumber, indirectFrom, indirectOf, typeOf, packAs, unpackAs, entryNumber, entryOf, packable, recounted, relocked, Fits, Laid, laidDirect, laidIndirect, Storable, isFree, isDirect, isIndirect}
+use Rattle.layout.specs.Entry.{direct, free, freed, freeFields, freeNumber, indirect, wordWidths, wordList, wordsNumber, bit, endWidths, endFields, endFrom, directWidths, directFields, directNumber, directFrom, directOf, indirectWidths, indirectFields, indirectNumber, indirectFrom, indirectOf, typeOf, packAs, unpackAs, entryNumber, entryOf, packable, recounted, relocked, Fits, Laid, laidDirect, laidIndirect, Storable, isFree, isDirect, isIndirect}
 use Rattle.layout.specs.declared.entry.Words.{Words}
 use Rattle.layout.specs.declared.entry.Entry.{Entry}
 use Rattle.bits.proofs.FieldLaws.{pack-lt, unpack-pack, pack-unpack, unpack-fit, regroup-pack, regroup-unpack, cut, groups}
@@ -177,11 +177,16 @@ other-at w h a b =
     let k : ℕ = w .a / 2 ^ 61 in
     ap (endFrom k) (sym (end-read w h)) ∙ sym (entry-read w h refl ∙ unpack-other k (wordsNumber w) a b)
 
-pub pack-other : (k : ℕ) (e : Entry) → (k ≡ 1 → ⊥) → (k ≡ 2 → ⊥) → packAs k e ≡ 0
+pack-other : (k : ℕ) (e : Entry) → (k ≡ 1 → ⊥) → (k ≡ 2 → ⊥) → packAs k e ≡ freeNumber e
 pack-other zero e a b = refl
 pack-other (suc zero) e a b = absurd (a refl)
 pack-other (suc (suc zero)) e a b = absurd (b refl)
 pack-other (suc (suc (suc k))) e a b = refl
+
+-- a type with no layout is written as a free entry with its tag, whatever its other fields
+pub as-free : (e : Entry) → (e .kind ≡ 1 → ⊥) → (e .kind ≡ 2 → ⊥) → entryNumber (freed (e .tag)) ≡ entryNumber e
+unfolding entryNumber freeNumber
+as-free e a b = sym (pack-other (e .kind) e a b)
 
 -- ---- what was packed is read again
 
@@ -197,9 +202,37 @@ bit-eqb false = refl
 read-as : (ws fs : List ℕ) (from : List ℕ → Entry) (e : Entry) → Fit ws fs → from fs ≡ e → from (unpack ws (pack ws fs)) ≡ e
 read-as ws fs from e f h = ap from (unpack-pack ws fs f) ∙ h
 
+free-fit : (g : ℕ) → g < 2 ^ 16 → Fit endWidths (freeFields g)
+free-fit g h = (lit< tt, (lit< tt, (lit< tt, (lit< tt, (h, (lit< tt, tt))))))
+
+-- as an entry's number: all fields before its end are zero
+abbrev freeWide : ℕ → List ℕ
+freeWide g = 0 ∷ 0 ∷ 0 ∷ 0 ∷ 0 ∷ 0 ∷ freeFields g
+
+free-wide : (g : ℕ) → pack directWidths (freeWide g) ≡ pack endWidths (freeFields g)
+free-wide g = simp (zero-mul, zero-add)
+
+free-wide-fit : (g : ℕ) → g < 2 ^ 16 → Fit directWidths (freeWide g)
+free-wide-fit g h = (lit< tt, (lit< tt, (lit< tt, (lit< tt, (lit< tt, (lit< tt, free-fit g h))))))
+
+free-type : (g : ℕ) → g < 2 ^ 16 → typeOf (pack endWidths (freeFields g)) ≡ 0
+free-type g h = ap typeOf (sym (free-wide g)) ∙ ap (λ l. getD l 0 0) (unpack-pack directWidths (freeWide g) (free-wide-fit g h))
+
+free-round : (g : ℕ) → g < 2 ^ 16 → entryOf (entryNumber (freed g)) ≡ freed g
+unfolding entryNumber freeNumber
+free-round g h = entry-as _ (free-type g h) ∙ ap (endFrom 0) (unpack-pack endWidths (freeFields g) (free-fit g h))
+
+-- its words: the tag stands above the 32 bits of the nonce
+pub free-words : (g : ℕ) → g < 2 ^ 16 → wordsNumber (record { a = 0; b = 0; c = 0; d = g * 2 ^ 32 % 2 ^ 64 }) ≡ entryNumber (freed g)
+unfolding entryNumber freeNumber wordsNumber
+free-words g h = rw (mod-eq-of-lt (shifted g h)) (simp (zero-mul, zero-add, mul-one, add-zero))
+  where
+    shifted : (g : ℕ) → g < 2 ^ 16 → g * 2 ^ 32 < 2 ^ 64
+    shifted g h = omega arith
+
 pub round : (e : Entry) → Storable e → entryOf (entryNumber e) ≡ e
-unfolding entryOf entryNumber directNumber indirectNumber directOf indirectOf
-round e (isFree i) = rw i refl
+unfolding entryOf entryNumber freeNumber directNumber indirectNumber directOf indirectOf
+round e (isFree {g} h i) = rw i (free-round g h)
 round e (isDirect k p z f) =
     let n : ℕ = pack directWidths (directFields e) in
     let type : typeOf n ≡ 1 = ap (λ l. getD l 0 0) (unpack-pack directWidths (directFields e) f) in
@@ -225,8 +258,8 @@ indirect-issued b l t p hb hl ht hp q =
     ap entryOf (q ∙ sym (number-as e refl)) ∙ round e (isIndirect refl refl refl fit)
 
 pub number-lt : (e : Entry) → Storable e → entryNumber e < 2 ^ 256
-unfolding entryNumber directNumber indirectNumber
-number-lt e (isFree i) = rw i (lit< tt)
+unfolding entryNumber freeNumber directNumber indirectNumber
+number-lt e (isFree {g} h i) = rw i (subst (λ n. n < 2 ^ 256) (free-wide g) (pack-lt directWidths (freeWide g) (free-wide-fit g h)))
 number-lt e (isDirect k p z f) = subst (λ n. n < 2 ^ 256) (sym (number-as e k)) (pack-lt directWidths (directFields e) f)
 number-lt e (isIndirect k h u f) = subst (λ n. n < 2 ^ 256) (sym (number-as e k)) (pack-lt indirectWidths (indirectFields e) f)
 
@@ -321,11 +354,11 @@ module _ (w : Words) (k x : ℕ) (f : Fit wordWidths (wordList w)) (hx : x < 2 ^
       let same : recounted (indirectRead w m) k ≡ indirectRead v m = rw (z .above, z .count, z .below) in
       words-back v g (laidIndirect t) (ap (λ (e : Entry). recounted e k) (sym (indirect-at w f t)) ∙ same ∙ indirect-at v g t)
 
--- a type with no layout is written as a free entry, whatever its fields
-pub other-words : (w : Words) (e : Entry) {x : ℕ} → Fit wordWidths (wordList w) → (w .a / 2 ^ 61 ≡ 1 → ⊥) → (w .a / 2 ^ 61 ≡ 2 → ⊥) → e .kind ≡ entryOf (wordsNumber w) .kind → x ≡ entryNumber free → x ≡ entryNumber e
-unfolding entryNumber
-other-words w e f a b k q =
-    q ∙ sym (number-as e (k ∙ sym (ap (λ (y : Entry). y .kind) (shared-read w f))) ∙ pack-other (w .a / 2 ^ 61) e a b)
+-- the same for words of which another entry of the same type is made, where x is what a free entry with its tag is written as
+pub other-words : (w : Words) (e : Entry) {g x : ℕ} → Fit wordWidths (wordList w) → (w .a / 2 ^ 61 ≡ 1 → ⊥) → (w .a / 2 ^ 61 ≡ 2 → ⊥) → e .kind ≡ entryOf (wordsNumber w) .kind → g ≡ e .tag → x ≡ entryNumber (freed g) → x ≡ entryNumber e
+other-words w e f a b k t q =
+    let kind : e .kind ≡ w .a / 2 ^ 61 = k ∙ sym (ap (λ (y : Entry). y .kind) (shared-read w f)) in
+    q ∙ ap (λ (g : ℕ). entryNumber (freed g)) t ∙ as-free e (λ h. a (sym kind ∙ h)) (λ h. b (sym kind ∙ h))
 
 -- the last word around one bit, and all its fields
 last-sum : (u p b k c g n : ℕ) → pack (13 ∷ 1 ∷ 50 ∷ []) ((u * 8 + p) ∷ b ∷ (k * 2 ^ 49 + (c * 2 ^ 48 + (g * 2 ^ 32 + n))) ∷ []) ≡ pack (10 ∷ endWidths) (u ∷ p ∷ b ∷ k ∷ c ∷ g ∷ n ∷ [])

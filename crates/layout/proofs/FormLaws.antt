@@ -7,7 +7,7 @@ use Prim.Native.Nat.{ℕ, zero, suc}
 use native.Mathlib.Omega.{arith}
 use lib.ListN.{replicate}
 use Rattle.bits.specs.Bytes.{bytes, number}
-use Rattle.layout.specs.Entry.{directOf, entryAt, entryBytes, entryNumber, entryOf, free, indirectOf, Laid, laidDirect, laidIndirect, Storable, typeOf, unpackAs}
+use Rattle.layout.specs.Entry.{directOf, entryAt, entryBytes, entryNumber, entryOf, free, freeNumber, indirectOf, Laid, laidDirect, laidIndirect, Storable, typeOf, unpackAs}
 use Rattle.bits.specs.Fields.{Fit}
 use Rattle.layout.specs.Form.{faultsOf, illFormed, orSome}
 use Rattle.layout.specs.declared.entry.Entry.{Entry}
@@ -63,7 +63,7 @@ well-formed-back m s b f h =
 
 -- 32 zeros are a free entry, and a free entry is 32 zeros
 pub free-back : (entryAt (replicate 32 0) ≡ free) × (entryBytes free ≡ replicate 32 0)
-unfolding number bytes entryOf entryNumber
+unfolding number bytes entryOf entryNumber freeNumber
 free-back = (refl, refl)
 
 -- an entry that was written reads back the same

@@ -92,9 +92,16 @@ endFrom k l = record {
   nonce = getD l 5 0;
 }
 
--- a free entry: type 0, all zeros
+-- Free: type 0. 02, paper 5: "A freed entry now keeps its tag, all else zero." Its last six fields, where the tag is g, and the entry.
+abbrev pub freeFields : (tag : ℕ) → List ℕ
+freeFields g = 0 ∷ 0 ∷ 0 ∷ 0 ∷ g ∷ 0 ∷ []
+
+abbrev pub freed : (tag : ℕ) → Entry
+freed g = endFrom 0 (freeFields g)
+
+-- all zeros: "an entry never used counts as having held tag 0"
 abbrev pub free : Entry
-free = endFrom 0 []
+free = freed 0
 
 -- the type of a 256-bit number: its top field, which every type has at the same place
 abbrev pub typeOf : ℕ → ℕ
@@ -106,18 +113,21 @@ directNumber e = pack directWidths (directFields e)
 unfoldable pub indirectNumber : Entry → ℕ
 indirectNumber e = pack indirectWidths (indirectFields e)
 
+unfoldable pub freeNumber : Entry → ℕ
+freeNumber e = pack endWidths (freeFields (e .tag))
+
 unfoldable pub directOf : ℕ → Entry
 directOf n = directFrom (unpack directWidths n)
 
 unfoldable pub indirectOf : ℕ → Entry
 indirectOf n = indirectFrom (unpack indirectWidths n)
 
--- the number that an entry is packed to, by its type
+-- the number that an entry is packed to, by its type; one above 2 has no layout here, and is packed as a free entry
 abbrev pub packAs : ℕ → Entry → ℕ
-packAs zero e = 0
+packAs zero e = freeNumber e
 packAs (suc zero) e = directNumber e
 packAs (suc (suc zero)) e = indirectNumber e
-packAs (suc (suc (suc k))) e = 0
+packAs (suc (suc (suc k))) e = freeNumber e
 
 unfoldable pub entryNumber : Entry → ℕ
 entryNumber e = packAs (e .kind) e
@@ -191,7 +201,7 @@ dated e ν = record { kind = e .kind; base = e .base; length = e .length; count 
 
 -- the entry can be packed with nothing lost: its fields fit, and those that its type does not have are zero
 pub data Storable (e : Entry) : Type 0 where
-  isFree : e ≡ free → Storable e
+  isFree : {g : ℕ} → g < 2 ^ 16 → e ≡ freed g → Storable e
   isDirect : e .kind ≡ 1 → e .parent ≡ 0 → e .zeros ≡ 0 → Fit directWidths (directFields e) → Storable e
   isIndirect : e .kind ≡ 2 → e .holder ≡ 0 → e .user ≡ 0 → Fit indirectWidths (indirectFields e) → Storable e
 

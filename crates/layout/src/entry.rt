@@ -7,7 +7,7 @@ ghost use Prim.Native.Nat.{_<_, _^_, _/_, _%_};
 ghost use lib.ListN.{length};
 ghost use Rattle.bits.specs.Fields.{pack, unpack};
 ghost use Rattle.bits.specs.Bytes.{bytes, number};
-ghost use Rattle.layout.specs.Entry.{bit, direct, directNumber, directOf, endFields, endFrom, endWidths, entryAt, entryBytes, entryNumber, entryOf, Fits, free, indirect, indirectNumber, indirectOf, packable, recounted, relocked, wordsNumber, writable, written};
+ghost use Rattle.layout.specs.Entry.{bit, direct, directNumber, directOf, endFields, endFrom, endWidths, entryAt, entryBytes, entryNumber, entryOf, Fits, free, freed, indirect, indirectNumber, indirectOf, packable, recounted, relocked, wordsNumber, writable, written};
 
 // An entry: every field of every type. A field that its type does not have is zero.
 pub struct Entry {
@@ -145,6 +145,18 @@ fn indirect_words(e: Entry) -> Words
     }
 }
 
+// The words of a free entry that keeps a tag.
+pub fn free_words(tag: u16) -> Words
+    ensures { λ r. ⌜ wordsNumber r ≡ entryNumber (freed tag) ⌝ }
+{
+    Words {
+        a: 0,
+        b: 0,
+        c: 0,
+        d: (tag as u64) << 32,
+    }
+}
+
 // The words of an entry. A type above 2 has no layout here and gives those of a free entry.
 fn words_of(e: Entry) -> Words
     requires { ⌜ Fits e ⌝ }
@@ -154,12 +166,7 @@ fn words_of(e: Entry) -> Words
     match kind {
         1 => direct_words(e),
         2 => indirect_words(e),
-        _ => Words {
-            a: 0,
-            b: 0,
-            c: 0,
-            d: 0,
-        },
+        _ => free_words(e.tag),
     }
 }
 
@@ -294,7 +301,7 @@ pub fn recounted(w: Words, count: u16) -> Words
             c: with_count(w.c, count),
             d: w.d,
         },
-        _ => free_words(),
+        _ => free_words(tag_of(w)),
     }
 }
 
@@ -332,7 +339,7 @@ pub fn relocked(w: Words, locked: bool, holder: u64) -> Words
             c: w.c,
             d: with_locked(w.d, locked),
         },
-        _ => free_words(),
+        _ => free_words(tag_of(w)),
     }
 }
 
@@ -377,19 +384,7 @@ pub fn write(part: &mut [u8], e: Entry) -> bool
     }
 }
 
-// The words of a free entry.
-pub fn free_words() -> Words
-    ensures { λ r. ⌜ wordsNumber r ≡ entryNumber free ⌝ }
-{
-    Words {
-        a: 0,
-        b: 0,
-        c: 0,
-        d: 0,
-    }
-}
-
-// A free entry.
+// A free entry that keeps no tag.
 fn free() -> Entry
     ensures { λ r. ⌜ r ≡ free ⌝ }
 {

@@ -12,7 +12,7 @@ use lib.Dec.{leb, ltb, eqb}
 use lib.ListN.{length, length-replicate}
 use borrow.Author.Tests.{eqb-false, eqb-true, leb-true, ltb-false, ltb-true, ne-eqb, not-true}
 use Rattle.hex.specs.Text.{farthest}
-use Rattle.layout.specs.Entry.{direct, directFields, directWidths, free, recounted, Storable}
+use Rattle.layout.specs.Entry.{direct, directFields, directWidths, freed, recounted, Storable}
 use Rattle.bits.specs.Fields.{Fit}
 use Rattle.tokens.specs.Permissions.{within, X}
 use Rattle.tokens.specs.Token.{named}
@@ -21,21 +21,21 @@ use Rattle.machine.specs.Demand3.{above, In, IsReset, itself, Owns, rese
 use Rattle.machine.specs.FreeTotal.{vacant}
 use Rattle.machine.specs.FromReset.{Has, Inside, owned}
 use Rattle.machine.specs.Images.{piecesOf}
-use Rattle.machine.specs.Issuing.{issue, newNumber}
+use Rattle.machine.specs.Issuing.{issue, lastHeld, newNumber, otherNonce}
 use Rattle.machine.specs.Line.{dead, ill, isLocked, Line, linked, lineOf, lockedFrom, owner, ownerOf, parentNumber}
-use Rattle.machine.specs.Operations.{carried, childOf, climb, Effect, effecting, fresh, grant, grantCreate, grantDerive, grantDump, grantLoad, grantLock, grantMerge, grantRelease, grantRevoke, issuing, mergedOf, namedEntry, nothing, numberOf, partOf, Reply, restOf, revokeNonce, store, transfer}
-use Rattle.machine.specs.Parts.{at, put, size, spent, State}
+use Rattle.machine.specs.Operations.{carried, childOf, climb, Effect, effecting, fresh, grant, grantCreate, grantDerive, grantDump, grantLoad, grantLock, grantMerge, grantRelease, grantRevoke, issuing, mergedOf, namedEntry, nothing, numberOf, partOf, Reply, restOf, store, transfer}
+use Rattle.machine.specs.Parts.{at, moved, put, size, spent, State}
 use Rattle.machine.specs.Requests.{access, clone, create, derive, dump, executeOnly, fetching, load, lock, merge, reading, release, Request, reset, revoke, Shift, taskOf, unlock, Way, writing}
 use Rattle.machine.specs.Stops.{checks}
-use Rattle.machine.specs.Writes.{Book, give, Name, oneLess, opened, vacate, Write, write, written}
+use Rattle.machine.specs.Writes.{Book, give, Name, nameOf, oneLess, opened, vacate, vacated, Write, write, written}
 use Rattle.machine.proofs.Basics.{neqb-true, owner-direct, parent, put-all, put2-all, range}
 use Rattle.machine.proofs.Choices.{by-cond}
 use Rattle.machine.proofs.Decided.{Passed, rest-passed}
-use Rattle.machine.proofs.Fates.{core, Deed, Fate, gone, Inv, issued, kept, Shut, Source, spares, Touches}
-use Rattle.machine.proofs.Fuel.{Live, number-first, revoke-least, walk-owns}
+use Rattle.machine.proofs.Fates.{Anew, core, Deed, Fate, gone, Inv, issued, kept, Names, none, one, Shut, Source, spares, Touches, two}
+use Rattle.machine.proofs.Fuel.{Live, number-first, other-first, other-least, walk-owns}
 use Rattle.machine.proofs.PlaceLaws.{placed-touches}
 use Rattle.machine.proofs.Sums.{owned-direct, owned-other, sum-put2, sum-same}
-use Rattle.machine.proofs.TableLaws.{at-other, in-table, put-out, size-put}
+use Rattle.machine.proofs.TableLaws.{at-other, at-same, freed-storable, held-small, in-table, put-out, size-put}
 use Rattle.machine.proofs.Tallies.{Tally, tally-free, tally-give, tally-keep, tally-same, tally-then}
 use Rattle.machine.proofs.WriteLaws.{Calm, calm-still, release-calm}
 use Rattle.machine.proofs.Written.{direct-fit, fitting, free-good, Good, issue-direct, issue-indirect, parent-named, recount-good, relock-good}
@@ -77,8 +77,8 @@ touched writing a b x h = once-stored h
 touched fetching a b x (inr h) = h
 
 module _ (m : ℕ) (s : State) (t : List ℕ) (inv : Inv m s t) where
-  unmoved : (q : Request) (ν : ℕ) (ks : List Name) (n : ℕ) → Fate s t q ν ks stay n (at t n)
-  unmoved q ν ks n = kept refl (λ x h. refl) (λ h. (refl, refl))
+  unmoved : (q : Request) (μ ν : ℕ) (ks : List Name) (n : ℕ) → Fate t q μ ν ks stay n (at t n)
+  unmoved q μ ν ks n = kept refl (λ x h. refl) (λ h. (refl, refl))
 
   owns : (n : ℕ) → not (eqb (at t n .kind) 0) ≡ true → Live (lineOf m t n) → Owns t n (ownerOf (lineOf m t n))
   owns n k v = walk-owns (suc (at t n .nonce)) m t n (neqb-true (at t n .kind) 0 k) v
@@ -88,7 +88,7 @@ module _ (m : ℕ) (s : State) (t : List ℕ) (inv : Inv m s t) where
       → ((n x : ℕ) → Shut (taskOf q) (at t n) → (Revokes q n → ⊥) → Touches f x → In (at t n) x → ⊥)
       → Deed m s t q (record { state = s′; table = t; reply = r; issued = []; effect = f })
   deed-none q {s′} up same sp =
-      record { up = up; moves = stay; fate = unmoved q (s′ .next) []; carried = λ n x h. h; spared = sp; good = inv .good; long = refl; sum = refl; tally = tally-same t t refl same }
+      record { up = up; least = s .next; above = omega arith; moves = stay; fate = unmoved q (s .next) (s′ .next) []; names = none; carried = λ n x h. h; spared = sp; good = inv .good; long = refl; sum = refl; tally = tally-same t t refl same }
 
   -- a byte of an entry whose line is open to u is no byte of an entry that is locked for another task
   owner-shut : (k u : ℕ) → not (eqb (namedEntry t k .kind) 0) ≡ true → Live (lineOf m t (numberOf k)) → not (lockedFrom t u (lineOf m t (numberOf k))) ≡ true
@@ -119,14 +119,17 @@ module _ (m : ℕ) (s : State) (t : List ℕ) (inv : Inv m s t) where
   -- ---- one entry is written, over the segment that it had
 
   deed-put : (q : Request) {n : ℕ} {e : Entry} {s′ : State} {r : Reply} {ks : List Name} {f : Effect} → s .next ≤ s′ .next → s′ .total ≡ s .total → Good m e → at t n .kind ≢ 0 → Over e (at t n)
-      → Fate s t q (s′ .next) ks stay n e
+      → Fate t q (s .next) (s′ .next) ks stay n e → Names t (put t n e) ks
       → ((i x : ℕ) → Shut (taskOf q) (at t i) → (Revokes q i → ⊥) → Touches f x → In (at t i) x → ⊥)
       → Deed m s t q (record { state = s′; table = put t n e; reply = r; issued = ks; effect = f })
-  deed-put q {n} {e} {s′} {r} {ks} {f} up same good full o fate sp =
+  deed-put q {n} {e} {s′} {r} {ks} {f} up same good full o fate names sp =
       record {
         up = up;
+        least = s .next;
+        above = omega arith;
+        names = names;
         moves = stay;
-        fate = each (λ i y. Fate s t q (s′ .next) ks stay i y) fate (λ i j. unmoved q (s′ .next) ks i);
+        fate = each (λ i y. Fate t q (s .next) (s′ .next) ks stay i y) fate (λ i j. unmoved q (s .next) (s′ .next) ks i);
         carried = λ i x h.
             let c : Holds (at (put t n e) i) x = each (λ k y. Has t k x → Holds y x) (λ k. (o .kind ∙ k .direct, omega arith)) (λ k j. has) i h in
             record { direct = c .0; inside = c .1 };
@@ -147,17 +150,20 @@ module _ (m : ℕ) (s : State) (t : List ℕ) (inv : Inv m s t) where
     first : p ≡ k → Holds a x → Lands p n a b k x
     second : n ≡ k → Holds b x → Lands p n a b k x
 
-  deed-put2 : (q : Request) {p n : ℕ} {a b : Entry} {s′ : State} {r : Reply} {ks : List Name} (g : ℕ → ℕ → ℕ) → s .next ≤ s′ .next → Good m a → Good m b → p < size t → n < size t → p ≢ n
+  deed-put2 : (q : Request) {p n : ℕ} {a b : Entry} {s′ : State} {r : Reply} {ks : List Name} (μ : ℕ) (g : ℕ → ℕ → ℕ) → s .next ≤ μ → s .next ≤ s′ .next → Good m a → Good m b → p < size t → n < size t → p ≢ n
       → owned a + owned b ≡ owned (at t p) + owned (at t n)
       → Tally t (s .total) (put (put t p a) n b) (s′ .total)
-      → Fate s t q (s′ .next) ks g n b → Fate s t q (s′ .next) ks g p a → ((i : ℕ) → i ≢ n → i ≢ p → (x : ℕ) → i ≡ g i x)
+      → Fate t q μ (s′ .next) ks g n b → Fate t q μ (s′ .next) ks g p a → Names t (put (put t p a) n b) ks → ((i : ℕ) → i ≢ n → i ≢ p → (x : ℕ) → i ≡ g i x)
       → ((x : ℕ) → Has t n x → Lands p n a b (g n x) x) → ((x : ℕ) → Has t p x → Lands p n a b (g p x) x)
       → Deed m s t q (record { state = s′; table = put (put t p a) n b; reply = r; issued = ks; effect = nothing })
-  deed-put2 q {p} {n} {a} {b} {s′} {r} {ks} g up ga gb hp hn d sum count nb pa others cn cp =
+  deed-put2 q {p} {n} {a} {b} {s′} {r} {ks} μ g low up ga gb hp hn d sum count nb pa names others cn cp =
       record {
         up = up;
+        least = μ;
+        above = low;
+        names = names;
         moves = g;
-        fate = each (λ i y. Fate s t q (s′ .next) ks g i y) nb pa (λ i j k. kept refl (λ x h. others i j k x) (λ h. (refl, refl)));
+        fate = each (λ i y. Fate t q μ (s′ .next) ks g i y) nb pa (λ i j k. kept refl (λ x h. others i j k x) (λ h. (refl, refl)));
         carried = λ i x h. moved-to i x h (ℕ-discrete i n) (ℕ-discrete i p);
         spared = λ i x sh nr tc ins. spares x tc;
         good = each (λ i y. Good m y) gb ga (λ i j k. inv .good i);
@@ -184,6 +190,26 @@ module _ (m : ℕ) (s : State) (t : List ℕ) (inv : Inv m s t) where
           let c : Holds (at (put (put t p a) n b) i) x = rw (at-other (put t p a) n i b e, at-other t p i a f) (has h) in
           rw (← others i e f x) (record { direct = c .0; inside = c .1 })
 
+  -- what is issued is there, with another tag than its entry had
+  anew : {n : ℕ} {e : Entry} → Good m e → e .kind ≢ 0 → n < size t → e .tag ≢ at t n .tag → Anew t (put t n e) (nameOf n e)
+  anew {n} {e} g k h o =
+      let there : at (put t n e) n ≡ e = at-same t n e (g .storable) h in
+      record { full = rw there k; has = ap (λ (x : Entry). x .tag) there; other = o }
+
+  anew-first : {p n : ℕ} {a : Entry} (b : Entry) → Good m a → a .kind ≢ 0 → p < size t → p ≢ n → a .tag ≢ at t p .tag → Anew t (put (put t p a) n b) (nameOf p a)
+  anew-first {p} {n} {a} b g k h d o =
+      let there : at (put (put t p a) n b) p ≡ a = at-other (put t p a) n p b d ∙ at-same t p a (g .storable) h in
+      record { full = rw there k; has = ap (λ (x : Entry). x .tag) there; other = o }
+
+  anew-second : (p : ℕ) {n : ℕ} (a : Entry) {b : Entry} → Good m b → b .kind ≢ 0 → n < size t → b .tag ≢ at t n .tag → Anew t (put (put t p a) n b) (nameOf n b)
+  anew-second p {n} a {b} g k h o =
+      let there : at (put (put t p a) n b) n ≡ b = at-same (put t p a) n b (g .storable) (rw size-put h) in
+      record { full = rw there k; has = ap (λ (x : Entry). x .tag) there; other = o }
+
+  -- the tag that an issue gives is another than the one that its entry last held
+  new-tag : (n : ℕ) (e : ℕ → Entry) → otherNonce s t n e < spent → issue s n (e (otherNonce s t n e)) .tag ≢ at t n .tag
+  new-tag n e h = other-first s t n e h .other
+
   apart : {n p : ℕ} → at t n .kind ≢ 0 → at t p .kind ≡ 0 → p ≢ n
   apart k z e = k (rw (← e) z)
 
@@ -195,18 +221,22 @@ module _ (m : ℕ) (s : State) (t : List ℕ) (inv : Inv m s t) where
   beside f e n k = rw (at-other t (newNumber s t) n e (λ i. apart k (number-first s t f .free) (sym i))) k
 
   -- derive and execute-only: a child in the segment of n
-  deed-derive : (q : Request) (n o l p c : ℕ) → at t n .kind ≢ 0 → newNumber s t ≢ 0 → 0 < l → o + l ≤ at t n .length → p < 8 → within p (at t n .permissions) ≡ true → at t n .count < 65535 → s .next + 1 ≤ spent
+  deed-derive : (q : Request) (n o l p c : ℕ) → at t n .kind ≢ 0 → newNumber s t ≢ 0 → 0 < l → o + l ≤ at t n .length → p < 8 → within p (at t n .permissions) ≡ true → at t n .count < 65535 → otherNonce s t (newNumber s t) (childOf n (at t n) o l p) + 1 ≤ spent
       → Deed m s t q (carried s t (grantDerive t n o l p c))
   deed-derive q n o l p c k f pos b hp hr hc hn =
+      let child : ℕ → Entry = childOf n (at t n) o l p in
+      let ν : ℕ = otherNonce s t (newNumber s t) child in
+      let least = other-least s t (newNumber s t) child in
       let in-n : n < size t = in-table t n k in
       let most : size t ≤ 1024 = inv .most in
       let low : n < 1024 = omega arith in
       let whole = range m (at t n) k (inv .good n .formed) in
-      let named-n : parentNumber (childOf n (at t n) o l p (s .next)) ≡ n = parent-named m n (at t n) (inv .good n) low in
-      let child-good : Good m (issue s (newNumber s t) (childOf n (at t n) o l p (s .next))) = issue-indirect m s (newNumber s t) n (inv .small) (inv .good n) low pos (omega arith) hp (omega arith) in
+      let named-n : parentNumber (childOf n (at t n) o l p ν) ≡ n = parent-named m n (at t n) (inv .good n) low in
+      let child-good : Good m (issue s (newNumber s t) (childOf n (at t n) o l p ν)) = issue-indirect m s (newNumber s t) n (inv .small) (inv .good n) low pos (omega arith) hp (omega arith) in
       let parent-good : Good m (recounted (at t n) (at t n .count + 1)) = recount-good m (inv .good n) k (omega arith) (λ i. omega arith) in
-      deed-put2 q stay
-      (omega arith)
+      deed-put2 q ν stay
+      least
+      (omega (arith, least))
       child-good
       parent-good
       (number-first s t f .inside) in-n (apart k (number-first s t f .free))
@@ -217,6 +247,7 @@ module _ (m : ℕ) (s : State) (t : List ℕ) (inv : Inv m s t) where
       (λ z. (refl, rw named-n (record { low = omega arith; high = omega arith; rights = hr })))
       (λ z. absurd (omega arith))
       (λ h. absurd (omega (arith, h .direct, number-first s t f .free))))
+      (one (anew-first _ child-good (omega arith) (number-first s t f .inside) (apart k (number-first s t f .free)) (new-tag (newNumber s t) child (omega arith))))
       (λ i j v x. refl)
       (λ x h. second refl (has h))
       (λ x h. absurd (omega (arith, h .direct, number-first s t f .free)))
@@ -247,28 +278,33 @@ module _ (m : ℕ) (s : State) (t : List ℕ) (inv : Inv m s t) where
       by-cond (λ w. let d = carried s t (issuing c (give (partOf (at t n) l u p) ∷ w ∷ [])) in d .state .next ≤ spent → Deed m s t q d) (eqb l (at t n .length))
       (λ e v.
       let same : l ≡ at t n .length = eqb-true l (at t n .length) e in
-      deed-put2 q (split n new y) (omega arith)
-      (a-good (omega arith)) (free-good m) (number-first s t f .inside) in-n (apart (omega arith) (number-first s t f .free))
+      let good : Good m a = a-good (omega arith) in
+      deed-put2 q (s .next) (split n new y) (omega arith) (omega (arith, least₁))
+      good (free-good m (held-small (put t new a) n)) inside in-n away
       (omega (arith, owned-direct (at t n) k, owned-other (at t new) (omega (arith, number-first s t f .free))))
-      (tally-then (given f (a-good (omega arith) .storable) (omega arith)) (tally-free _ n _ (beside f a n (omega arith))))
-      (gone refl unlocked)
-      (issued (omega arith) (omega arith) (List·Memᴰ·head refl) (λ h. absurd (omega arith)) (λ h x i. part x i) (λ h. absurd (vacant h)))
+      (tally-then (given f (good .storable) (omega arith)) (tally-free (put t new a) n (lastHeld (put t new a) n) _ (freed-storable (put t new a) n) (beside f a n (omega arith))))
+      (gone refl (ap (λ (x : Entry). x .tag) there) unlocked)
+      (issued (omega (arith, least₁)) (omega arith) (List·Memᴰ·head refl) (λ h. absurd (omega arith)) (λ h x i. part x i) (λ h. absurd (vacant h)))
+      (one (anew-first _ good (omega arith) inside away (new-tag new (partOf (at t n) l u p) (omega arith))))
       (λ i j v x. split-other n new y i x j)
       (λ x h. first (split-front n new y x (omega (arith, h .inside))) (refl, omega (arith, h .inside)))
       (λ x h. absurd (omega (arith, h .direct, number-first s t f .free))))
       (λ e v.
       let less : l ≢ at t n .length = eqb-false l (at t n .length) e in
+      let good : Good m a = a-good (omega (arith, least₂)) in
       let rest-good : Good m r = issue-direct m s n (inv .small) (omega arith) (omega (arith, whole)) (omega (arith, fit)) (omega (arith, fit)) (omega arith) (inv .good n .lockable k) in
-      deed-put2 q (split n new y) (omega arith)
-      (a-good (omega arith))
+      let other : r .tag ≢ at t n .tag = subst (λ (x : Entry). r .tag ≢ x .tag) there (other-first s₁ (put t new a) n rest (omega arith) .other) in
+      deed-put2 q (s .next) (split n new y) (omega arith) (omega (arith, least₁, least₂))
+      good
       rest-good
-      (number-first s t f .inside) in-n (apart (omega arith) (number-first s t f .free))
+      inside in-n away
       (omega (arith, owned-direct (at t n) k, owned-other (at t new) (omega (arith, number-first s t f .free))))
-      (tally-then (given f (a-good (omega arith) .storable) (omega arith)) (tally-keep _ n _ _ (rest-good .storable) (omega arith) (beside f a n (omega arith))))
-      (issued (omega arith) (omega arith) (List·Memᴰ·tail (List·Memᴰ·head refl)) (λ h. absurd (omega arith))
+      (tally-then (given f (good .storable) (omega arith)) (tally-keep _ n _ _ (rest-good .storable) (omega arith) (beside f a n (omega arith))))
+      (issued (omega (arith, least₁, least₂)) (omega arith) (List·Memᴰ·tail (List·Memᴰ·head refl)) (λ h. absurd (omega arith))
       (λ h x i. record { from = n; has = record { direct = k; inside = omega arith }; to = split-back n new y x (i .0) })
       (λ h. absurd (unlocked h)))
-      (issued (omega arith) (omega arith) (List·Memᴰ·head refl) (λ h. absurd (omega arith)) (λ h x i. part x i) (λ h. absurd (vacant h)))
+      (issued (omega (arith, least₁)) (omega (arith, least₂)) (List·Memᴰ·head refl) (λ h. absurd (omega arith)) (λ h x i. part x i) (λ h. absurd (vacant h)))
+      (two (anew-first _ good (omega arith) inside away (new-tag new (partOf (at t n) l u p) (omega (arith, least₂)))) (anew-second new a rest-good (omega arith) in-n other) away)
       (λ i j v x. split-other n new y i x j)
       (λ x h. lands x h (decLt x y))
       (λ x h. absurd (omega (arith, h .direct, number-first s t f .free))))
@@ -280,11 +316,30 @@ module _ (m : ℕ) (s : State) (t : List ℕ) (inv : Inv m s t) where
       y : ℕ
       y = at t n .base + l
 
+      -- the part, with its nonce, and the state after it; the rest, with its nonce
+      ν₁ : ℕ
+      ν₁ = otherNonce s t new (partOf (at t n) l u p)
+
       a : Entry
-      a = issue s new (partOf (at t n) l u p (s .next))
+      a = issue s new (partOf (at t n) l u p ν₁)
+
+      s₁ : State
+      s₁ = moved s new (ν₁ + 1) (oneLess (s .total))
+
+      rest : ℕ → Entry
+      rest ν = restOf (at t n) l ν
+
+      ν₂ : ℕ
+      ν₂ = otherNonce s₁ (put t new a) n rest
 
       r : Entry
-      r = issue s n (restOf (at t n) l (s .next + 1))
+      r = issue s n (rest ν₂)
+
+      least₁ : s .next ≤ ν₁
+      least₁ = other-least s t new (partOf (at t n) l u p)
+
+      least₂ : ν₁ + 1 ≤ ν₂
+      least₂ = other-least s₁ (put t new a) n rest
 
       whole : (0 < at t n .length) × (at t n .base + at t n .length ≤ m)
       whole = range m (at t n) (omega arith) (inv .good n .formed)
@@ -295,13 +350,23 @@ module _ (m : ℕ) (s : State) (t : List ℕ) (inv : Inv m s t) where
       in-n : n < size t
       in-n = in-table t n (omega arith)
 
+      inside : new < size t
+      inside = number-first s t f .inside
+
+      away : new ≢ n
+      away = apart (omega arith) (number-first s t f .free)
+
+      -- the part is another entry, so that this one is still there when it is issued
+      there : at (put t new a) n ≡ at t n
+      there = at-other t new n a (λ e. away (sym e))
+
       unlocked : Shut (taskOf q) (at t n) → ⊥
       unlocked h = let one : _≡_ {A = ℕ} 0 1 = cc (h .locked) in omega arith
 
       vacant : Shut (taskOf q) (at t new) → ⊥
       vacant h = omega (arith, h .direct, number-first s t f .free)
 
-      a-good : s .next < spent → Good m a
+      a-good : ν₁ < spent → Good m a
       a-good h = issue-direct m s new (inv .small) (omega arith) (omega (arith, whole)) hu hp h (inv .good n .lockable k)
 
       part : (x : ℕ) → In a x → Source t (split n new y) new x
@@ -325,28 +390,32 @@ module _ (m : ℕ) (s : State) (t : List ℕ) (inv : Inv m s t) where
   fuse-other n k i x h = by-cond (λ r. i ≡ r) (eqb i k) (λ j. absurd (h (eqb-true i k j))) (λ j. refl)
 
   deed-merge : (q : Request) (n k c : ℕ) → at t n .kind ≡ 1 → at t k .kind ≡ 1 → at t n .locked ≡ false → at t k .locked ≡ false
-      → at t k .base ≡ at t n .base + at t n .length → s .next + 1 ≤ spent → Deed m s t q (carried s t (grantMerge t n k c))
+      → at t k .base ≡ at t n .base + at t n .length → otherNonce s t n (mergedOf (at t n) (at t k)) + 1 ≤ spent → Deed m s t q (carried s t (grantMerge t n k c))
   deed-merge q n k c d d′ z z′ b hn =
       let whole = range m (at t n) (omega arith) (inv .good n .formed) in
       let whole′ = range m (at t k) (omega arith) (inv .good k .formed) in
       let fit : Fit directWidths (directFields (at t n)) = direct-fit m (at t n) (inv .good n) d in
-      let whole-good : Good m (issue s n (mergedOf (at t n) (at t k) (s .next))) = issue-direct m s n (inv .small) (omega arith) (omega arith) (omega arith) (omega (arith, and-le-l (at t n .permissions) (at t k .permissions))) (omega arith) (inv .good n .lockable d) in
-      let two : k ≢ n = λ e. let same : at t k .base ≡ at t n .base = ap (λ (x : ℕ). at t x .base) e in omega arith in
-      deed-put2 q (fuse n k) (omega arith)
-      (free-good m)
-      whole-good
-      (in-table t k (omega arith)) (in-table t n (omega arith))
-      two
+      let good : Good m a = issue-direct m s n (inv .small) (omega arith) (omega arith) (omega arith) (omega (arith, and-le-l (at t n .permissions) (at t k .permissions))) (omega arith) (inv .good n .lockable d) in
+      let away : n ≢ k = λ e. let same : at t n .base ≡ at t k .base = ap (λ (x : ℕ). at t x .base) e in omega arith in
+      let there : at (put t n a) k ≡ at t k = at-other t n k a (λ e. away (sym e)) in
+      let least = other-least s t n (mergedOf (at t n) (at t k)) in
+      let full : at (put t n a) k .kind ≢ 0 = rw there (omega arith) in
+      deed-put2 q (s .next) (fuse n k) (omega arith) (omega (arith, least))
+      good
+      (free-good m (held-small (put t n a) k))
+      (in-table t n (omega arith)) (in-table t k (omega arith))
+      away
       (omega (arith, owned-direct (at t n) d, owned-direct (at t k) d′))
-      (tally-then (tally-free t k (s .total) (omega arith)) (tally-keep _ n _ _ (whole-good .storable) (omega arith) (rw (at-other t k n free (λ e. two (sym e))) (omega arith))))
-      (issued (omega arith) (omega arith) (List·Memᴰ·head refl) (λ h. absurd (omega arith)) (λ h x i. from x i (decLt x (at t k .base))) (λ h. absurd (unlocked h z)))
-      (gone refl (λ h. unlocked h z′))
-      (λ i j v x. fuse-other n k i x v)
-      (λ x h. second (fuse-first n k x) (refl, omega (arith, h .inside)))
-      (λ x h. second (fuse-second n k x) (refl, omega (arith, h .inside)))
+      (tally-then (tally-keep t n a (s .total) (good .storable) (omega arith) (omega arith)) (tally-free (put t n a) k (lastHeld (put t n a) k) _ (freed-storable (put t n a) k) full))
+      (gone refl (ap (λ (x : Entry). x .tag) there) (λ h. unlocked h z′))
+      (issued (omega (arith, least)) (omega arith) (List·Memᴰ·head refl) (λ h. absurd (omega arith)) (λ h x i. from x i (decLt x (at t k .base))) (λ h. absurd (unlocked h z)))
+      (one (anew-first _ good (omega arith) (in-table t n (omega arith)) away (new-tag n (mergedOf (at t n) (at t k)) (omega arith))))
+      (λ i j v x. fuse-other n k i x j)
+      (λ x h. first (fuse-second n k x) (refl, omega (arith, h .inside)))
+      (λ x h. first (fuse-first n k x) (refl, omega (arith, h .inside)))
     where
       a : Entry
-      a = mergedOf (at t n) (at t k) (s .next)
+      a = issue s n (mergedOf (at t n) (at t k) (otherNonce s t n (mergedOf (at t n) (at t k))))
 
       unlocked : {e : Entry} → Shut (taskOf q) e → e .locked ≡ false → ⊥
       unlocked h e = let one : _≡_ {A = ℕ} 0 1 = cc (h .locked) in omega arith
@@ -360,16 +429,16 @@ module _ (m : ℕ) (s : State) (t : List ℕ) (inv : Inv m s t) where
   -- what it does to an entry
   data Fades (e e′ : Entry) : Type 0 where
     stays : core e′ ≡ core e → e′ .locked ≡ e .locked → e′ .holder ≡ e .holder → Fades e e′
-    freed : e′ .kind ≡ 0 → e .kind ≢ 1 → Fades e e′
+    fallen : e′ .kind ≡ 0 → e′ .tag ≡ e .tag → e .kind ≢ 1 → Fades e e′
 
   same : (e : Entry) → Fades e e
   same e = stays refl refl refl
 
   fades-fades : {d e f : Entry} → Fades d e → Fades e f → Fades d f
   fades-fades (stays i j h) (stays k l g) = stays (k ∙ i) (l ∙ j) (g ∙ h)
-  fades-fades (stays i j h) (freed k l) = freed k (subst (λ (x : Entry). x .kind ≢ 1) i l)
-  fades-fades (freed i j) (stays k l g) = freed (ap (λ (x : Entry). x .kind) k ∙ i) j
-  fades-fades (freed i j) (freed k l) = freed k j
+  fades-fades (stays i j h) (fallen k g l) = fallen k (g ∙ ap (λ (x : Entry). x .tag) i) (subst (λ (x : Entry). x .kind ≢ 1) i l)
+  fades-fades (fallen i h j) (stays k l g) = fallen (ap (λ (x : Entry). x .kind) k ∙ i) (ap (λ (x : Entry). x .tag) k ∙ h) j
+  fades-fades (fallen i h j) (fallen k g l) = fallen k (g ∙ h) j
 
   -- tables of which every entry of the second is a faded one of the first, and good; and the total beside each
   record Fading (u : List ℕ) (k : ℕ) (u′ : List ℕ) (k′ : ℕ) : Type 0 where
@@ -402,10 +471,10 @@ module _ (m : ℕ) (s : State) (t : List ℕ) (inv : Inv m s t) where
       (λ j. recounts 0 (omega (arith, eqb-true (at u n .kind) 1 j)) (omega arith) (λ k. absurd (omega (arith, eqb-true (at u n .kind) 1 j))))
       (λ j.
       let there = full (eqb-false (at u n .count) 0 z) in
-      let once = put-fades u (s .total) gs n there (freed refl (eqb-false (at u n .kind) 1 j)) (free-good m) (tally-free u n (s .total) there) in
+      let once = put-fades u (s .total) gs n there (fallen refl refl (eqb-false (at u n .kind) 1 j)) (free-good m (held-small u n)) (tally-free u n (lastHeld u n) (s .total) (freed-storable u n) there) in
       by-cond (λ ws. Left (vacate n ∷ ws)) (linked u (at u n))
       (λ v.
-      let more = climb-fades f (write 0 (opened s u) (vacate n) .state) (put u n free) (parentNumber (at u n)) (once .good) in
+      let more = climb-fades f (write 0 (opened s u) (vacate n) .state) (vacated u n) (parentNumber (at u n)) (once .good) in
       record { each = λ k. fades-fades (once .each k) (more .each k); good = more .good; long = more .long ∙ once .long; tally = tally-then (once .tally) (more .tally) })
       (λ v. once))))
     where
@@ -425,6 +494,9 @@ module _ (m : ℕ) (s : State) (t : List ℕ) (inv : Inv m s t) where
   deed-fading q ws k c f =
       record {
         up = omega (arith, ap (λ (x : State). x .next) (calm-still 0 (opened s t) ws c .state));
+        least = s .next;
+        above = omega arith;
+        names = rw (calm-still 0 (opened s t) ws c .issued) none;
         moves = stay;
         fate = λ n. go n (f .each n);
         carried = λ n x h. bytes n x h (f .each n);
@@ -443,15 +515,15 @@ module _ (m : ℕ) (s : State) (t : List ℕ) (inv : Inv m s t) where
 
       sums : (n : ℕ) → Fades (at t n) (at t′ n) → owned (at t′ n) ≡ owned (at t n)
       sums n (stays i j h) = ap (λ (x : Entry). owned x) i
-      sums n (freed i j) = owned-other (at t′ n) (omega arith) ∙ sym (owned-other (at t n) j)
+      sums n (fallen i h j) = owned-other (at t′ n) (omega arith) ∙ sym (owned-other (at t n) j)
 
       bytes : (n x : ℕ) → Has t n x → Fades (at t n) (at t′ n) → Has t′ n x
       bytes n x h (stays i j k) = record { direct = ap (λ (y : Entry). y .kind) i ∙ h .direct; inside = subst (λ (y : Entry). In y x) (sym i) (h .inside) }
-      bytes n x h (freed i j) = absurd (j (h .direct))
+      bytes n x h (fallen i g j) = absurd (j (h .direct))
 
-      go : (n : ℕ) → Fades (at t n) (at t′ n) → Fate s t q (b′ .state .next) (b′ .issued) stay n (at t′ n)
+      go : (n : ℕ) → Fades (at t n) (at t′ n) → Fate t q (s .next) (b′ .state .next) (b′ .issued) stay n (at t′ n)
       go n (stays i j k) = kept i (λ x h. refl) (λ h. (j, k))
-      go n (freed i j) = gone i (λ h. j (h .direct))
+      go n (fallen i g j) = gone i g (λ h. j (h .direct))
 
   deed-release : (k : ℕ) (b : List ℕ) → Deed m s t (release k) (carried s t (grant m t (release k) b))
   deed-release k b =
@@ -463,20 +535,21 @@ module _ (m : ℕ) (s : State) (t : List ℕ) (inv : Inv m s t) where
 
   -- ---- revoke and locks
 
-  pub revoked-good : (n : ℕ) → at t n .kind ≡ 1 → revokeNonce s t n < spent → Good m (issue s n (fresh (at t n) (revokeNonce s t n)))
+  pub revoked-good : (n : ℕ) → at t n .kind ≡ 1 → let ν = otherNonce s t n (fresh (at t n)) in ν < spent → Good m (issue s n (fresh (at t n) ν))
   revoked-good n d hn =
       let whole = range m (at t n) (omega arith) (inv .good n .formed) in
       issue-direct m s n (inv .small) (whole .0) (whole .1) (omega arith) (omega arith) (omega arith) refl
 
-  deed-revoke : (k c : ℕ) → at t (numberOf k) .kind ≡ 1 → revokeNonce s t (numberOf k) < spent → Deed m s t (revoke k c) (carried s t (grantRevoke t (numberOf k) c))
+  deed-revoke : (k c : ℕ) → at t (numberOf k) .kind ≡ 1 → otherNonce s t (numberOf k) (fresh (namedEntry t k)) < spent → Deed m s t (revoke k c) (carried s t (grantRevoke t (numberOf k) c))
   deed-revoke k c d hn =
       let n : ℕ = numberOf k in
-      let up : s .next ≤ revokeNonce s t n = revoke-least s t n in
+      let up = other-least s t n (fresh (at t n)) in
       deed-put (revoke k c) (omega arith) refl
       (revoked-good n d hn)
       (omega arith)
       (record { kind = sym d; base = refl; length = refl })
       (issued (omega arith) (omega arith) (List·Memᴰ·head refl) (λ h. absurd (omega arith)) (λ h x i. record { from = n; has = record { direct = d; inside = i }; to = refl }) (λ h. revokes refl))
+      (one (anew (revoked-good n d hn) (omega arith) (in-table t n (omega arith)) (new-tag n (fresh (at t n)) hn)))
       (λ i x sh nr tc ins.
       let there = once-stored tc in
       nr (revokes (inv .tiled n i x (record { direct = d; inside = (there .0, omega (arith, simp (length-replicate) at (there .1))) }) (record { direct = sh .direct; inside = ins }))))
@@ -492,6 +565,7 @@ module _ (m : ℕ) (s : State) (t : List ℕ) (inv : Inv m s t) where
       (omega arith)
       (record { kind = refl; base = refl; length = refl })
       (kept refl (λ x h. refl) (λ i. absurd (owner-open t l (taskOf q) v o i)))
+      none
       (λ i x sh nr tc ins. spares x tc)
 
   -- ---- every granted request but a reset
@@ -519,7 +593,7 @@ module _ (m : ℕ) (s : State) (t : List ℕ) (inv : Inv m s t) where
       (not-true _ (search))
       (not-true _ (search))
       (eqb-true (e .base) (d .base + d .length) (search))
-      (leb-true (s .next + 1) spent (search))
+      (leb-true _ spent (search))
   deed-granted (derive k o l p c) b nr h =
       let e : Entry = namedEntry t k in
       deed-derive (derive k o l p c) (numberOf k) o l p c
@@ -530,7 +604,7 @@ module _ (m : ℕ) (s : State) (t : List ℕ) (inv : Inv m s t) where
       (omega (arith, leb-true p 7 (search)))
       (search)
       (ltb-true (e .count) 65535 (search))
-      (leb-true (s .next + 1) spent (search))
+      (leb-true _ spent (search))
   deed-granted (executeOnly k c) b nr h =
       let e : Entry = namedEntry t k in
       let full : e .kind ≢ 0 = neqb-true (e .kind) 0 (search) in
@@ -542,13 +616,13 @@ module _ (m : ℕ) (s : State) (t : List ℕ) (inv : Inv m s t) where
       (omega arith)
       (search)
       (ltb-true (e .count) 65535 (search))
-      (leb-true (s .next + 1) spent (search))
+      (leb-true _ spent (search))
   deed-granted (clone k) b nr h =
       let e : Entry = namedEntry t k in
       let full : e .kind ≢ 0 = neqb-true (e .kind) 0 (search) in
       deed-put (clone k) (omega arith) refl
       (recount-good m (inv .good (numberOf k)) full (omega (arith, ltb-true (e .count) 65535 (search))) (λ i. omega arith))
-      full (record { kind = refl; base = refl; length = refl }) (kept refl (λ x h. refl) (λ h. (refl, refl))) (λ i x sh nr tc ins. spares x tc)
+      full (record { kind = refl; base = refl; length = refl }) (kept refl (λ x h. refl) (λ h. (refl, refl))) none (λ i x sh nr tc ins. spares x tc)
   deed-granted (release k) b nr h = deed-release k b
   deed-granted (lock k u) b nr h =
       deed-lock (lock k u) (numberOf k) true u (search) (search, search) (search) (ltb-true u (2 ^ 55) (search)) (not-true _ (search)) refl
@@ -564,4 +638,4 @@ module _ (m : ℕ) (s : State) (t : List ℕ) (inv : Inv m s t) where
       by : (x : ℕ) → Touches (grantDump (namedEntry t k) .effect) x → In (namedEntry t k) x
       by x (inr h) = h
   deed-granted (revoke k c) b nr h =
-      deed-revoke k c (eqb-true (namedEntry t k .kind) 1 (search)) (omega (arith, leb-true (revokeNonce s t (numberOf k) + 1) spent (search)))
+      deed-revoke k c (eqb-true (namedEntry t k .kind) 1 (search)) (omega (arith, leb-true (otherNonce s t (numberOf k) (fresh (namedEntry t k)) + 1) spent (search)))

@@ -11,7 +11,6 @@ use lib.Dec.{eqb, leb, ltb}
 use lib.ListN.{length}
 use borrow.Author.Tests.{le-ltb, lt-ltb, ltb-true, ne-eqb}
 use Rattle.bits.proofs.TestLaws.{both}
-use Rattle.layout.specs.Entry.{free, isFree}
 use Rattle.layout.specs.Form.{illFormed}
 use Rattle.layout.specs.declared.entry.Entry.{Entry}
 use Rattle.machine.specs.Depth.{climbMeets, Depth, lastOf, walkMeets}
@@ -21,7 +20,7 @@ use Rattle.machine.specs.Parts.{at, size}
 use Rattle.machine.specs.Writes.{vacate, vacated, Write}
 use Rattle.machine.proofs.Basics.{link, Link, neqb-true, parent}
 use Rattle.machine.proofs.Choices.{by-both, by-cond}
-use Rattle.machine.proofs.TableLaws.{at-other, at-same, in-table, size-put}
+use Rattle.machine.proofs.TableLaws.{in-table, size-put, vacated-other, vacated-same}
 
 -- ---- how many numbers below k pass a test
 
@@ -150,8 +149,8 @@ freed : (t : List ℕ) (n i : ℕ) → n < size t → at (vacated t n) i .kind �
 freed t n i h k = go (ℕ-discrete i n)
   where
     go : Dec (i ≡ n) → at (vacated t n) i ≡ at t i
-    go (yes e) = absurd (k (rw e (ap (λ (x : Entry). x .kind) (at-same t n free (isFree refl) h))))
-    go (no e) = at-other t n i free e
+    go (yes e) = absurd (k (rw e (ap (λ (x : Entry). x .kind) (vacated-same t n h))))
+    go (no e) = vacated-other t n i e
 
 climb-most : (f : ℕ) (t : List ℕ) (n : ℕ) → n < size t → length (climbMeets f t n) ≤ suc (below t n)
 unfolding climbMeets
@@ -163,10 +162,10 @@ climb-most (suc f) t n h =
     (λ d. by-cond P (linked t (at t n))
     (λ l. let p : ℕ = parentNumber (at t n) in
     let k : Link (at t n) (at t p) = link (at t n) (parent t n) l in
-    let z : size (vacated t n) ≡ size t = size-put t n free in
+    let z : size (vacated t n) ≡ size t = size-put t n _ in
     -- the parent is another entry, so that it is still there when the child is freed
     let apart : p ≢ n = λ e. omega (arith, ap (λ (i : ℕ). at t i .nonce) e) in
-    omega (arith, climb-most f (vacated t n) p (rw z (in-table t p (k .full))), fewer t (vacated t n) n p z (λ i j. freed t n i h j) (at-other t n p free apart) k))
+    omega (arith, climb-most f (vacated t n) p (rw z (in-table t p (k .full))), fewer t (vacated t n) n p z (λ i j. freed t n i h j) (vacated-other t n p apart) k))
     (λ l. omega arith))))
   where
     P : List ℕ → Type 0

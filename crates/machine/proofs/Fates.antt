@@ -81,18 +81,30 @@ pub record Source (t : List ℕ) (g : ℕ → ℕ → ℕ) (n x : ℕ) : Type 0 
   pub has : Has t from x
   pub to : n ≡ g from x
 
--- What became of entry n, which now is e′. ν is the next nonce after the request, ks the tokens that it gives; g tells who gets the bytes of
--- an old owner.
-pub data Fate (s : State) (t : List ℕ) (q : Request) (ν : ℕ) (ks : List Name) (g : ℕ → ℕ → ℕ) (n : ℕ) (e′ : Entry) : Type 0 where
+-- What became of entry n, which now is e′. μ is a nonce that no nonce issued is below, ν the next one after the request, ks the tokens that it gives; g tells who
+-- gets the bytes of an old owner.
+pub data Fate (t : List ℕ) (q : Request) (μ ν : ℕ) (ks : List Name) (g : ℕ → ℕ → ℕ) (n : ℕ) (e′ : Entry) : Type 0 where
   kept : core e′ ≡ core (at t n) → ((x : ℕ) → Has t n x → n ≡ g n x)
       → (Shut (taskOf q) (at t n) → (e′ .locked ≡ at t n .locked) × (e′ .holder ≡ at t n .holder))
-      → Fate s t q ν ks g n e′
-  gone : e′ .kind ≡ 0 → (Shut (taskOf q) (at t n) → ⊥) → Fate s t q ν ks g n e′
-  issued : s .next ≤ e′ .nonce → e′ .nonce < ν → List·Memᴰ (nameOf n e′) ks
-      → (e′ .kind ≡ 2 → (e′ .nonce ≡ s .next) × Inside e′ (at t (parentNumber e′)))
+      → Fate t q μ ν ks g n e′
+  gone : e′ .kind ≡ 0 → e′ .tag ≡ at t n .tag → (Shut (taskOf q) (at t n) → ⊥) → Fate t q μ ν ks g n e′
+  issued : μ ≤ e′ .nonce → e′ .nonce < ν → List·Memᴰ (nameOf n e′) ks
+      → (e′ .kind ≡ 2 → (e′ .nonce ≡ μ) × Inside e′ (at t (parentNumber e′)))
       → (e′ .kind ≡ 1 → (x : ℕ) → In e′ x → Source t g n x)
       → (Shut (taskOf q) (at t n) → Revokes q n)
-      → Fate s t q ν ks g n e′
+      → Fate t q μ ν ks g n e′
+
+-- the token k was issued: its entry has its tag now, and held another
+pub record Anew (t t′ : List ℕ) (k : Name) : Type 0 where
+  pub full : at t′ (k .number) .kind ≢ 0
+  pub has : at t′ (k .number) .tag ≡ k .tag
+  pub other : k .tag ≢ at t (k .number) .tag
+
+-- the tokens that a request gives: two at most, of different entries
+pub data Names (t t′ : List ℕ) : List Name → Type 0 where
+  none : Names t t′ []
+  one : {k : Name} → Anew t t′ k → Names t t′ (k ∷ [])
+  two : {j k : Name} → Anew t t′ j → Anew t t′ k → j .number ≢ k .number → Names t t′ (j ∷ k ∷ [])
 
 -- byte x is stored, or read
 abbrev pub Stored : List Store → ℕ → Type 0
@@ -115,8 +127,11 @@ spares x (inr h) = h
 -- what each request but a reset does, granted or not
 pub record Deed (m : ℕ) (s : State) (t : List ℕ) (q : Request) (d : Decision) : Type 0 where
   pub up : s .next ≤ d .state .next
+  pub least : ℕ
+  pub above : s .next ≤ least
   pub moves : ℕ → ℕ → ℕ
-  pub fate : (n : ℕ) → Fate s t q (d .state .next) (d .issued) moves n (at (d .table) n)
+  pub fate : (n : ℕ) → Fate t q least (d .state .next) (d .issued) moves n (at (d .table) n)
+  pub names : Names t (d .table) (d .issued)
   pub carried : (n x : ℕ) → Has t n x → Has (d .table) (moves n x) x
   pub spared : (n x : ℕ) → Shut (taskOf q) (at t n) → (Revokes q n → ⊥) → Touches (d .effect) x → In (at t n) x → ⊥
   pub good : (n : ℕ) → Good m (at (d .table) n)
@@ -129,14 +144,14 @@ module _ (m : ℕ) (s : State) (t : List ℕ) (q : Request) (d : Decision) (inv 
   t′ = d .table
 
   abbrev F : ℕ → Type 0
-  F n = Fate s t q (d .state .next) (d .issued) (deed .moves) n (at t′ n)
+  F n = Fate t q (deed .least) (d .state .next) (d .issued) (deed .moves) n (at t′ n)
 
   inv-below : (n : ℕ) → at t′ n .kind ≢ 0 → at t′ n .nonce < d .state .next
   inv-below n k = go (deed .fate n)
     where
       go : F n → at t′ n .nonce < d .state .next
       go (kept e g h) = omega (arith, deed .up, ap (λ (x : Entry). x .nonce) e, inv .below n (subst (λ (x : Entry). x .kind ≢ 0) e k))
-      go (gone z h) = absurd (k z)
+      go (gone z τ h) = absurd (k z)
       go (issued a b i j f h) = b
 
   source : (n x : ℕ) → Has t′ n x → Source t (deed .moves) n x
@@ -146,7 +161,7 @@ module _ (m : ℕ) (s : State) (t : List ℕ) (q : Request) (d : Decision) (inv 
       go (kept e g k) =
           let o : Has t n x = record { direct = subst (λ (y : Entry). y .kind ≡ 1) e (h .direct); inside = subst (λ (y : Entry). In y x) e (h .inside) } in
           record { from = n; has = o; to = g x o }
-      go (gone z k) = absurd (omega (arith, h .direct))
+      go (gone z τ k) = absurd (omega (arith, h .direct))
       go (issued a b i j f k) = f (h .direct) x (h .inside)
 
   inv-tiled : (n k x : ℕ) → Has t′ n x → Has t′ k x → n ≡ k
@@ -171,13 +186,13 @@ module _ (m : ℕ) (s : State) (t : List ℕ) (q : Request) (d : Decision) (inv 
       go (kept e g h) (kept f g′ h′) =
           inside-same (at t n) (parent t n) (at t′ n) (parent t′ n) e (f ∙ ap (λ (x : Entry). core (at t (parentNumber x))) e)
           (inv .inside n (linked-same t t′ n e f l))
-      go (kept e g h) (gone z i) = absurd (k .full z)
+      go (kept e g h) (gone z τ i) = absurd (k .full z)
       go (kept e g h) (issued a b i j f r) =
-          absurd (omega (arith, k .older, ap (λ (x : Entry). x .nonce) e, inv .below n (omega (arith, l .indirect, ap (λ (x : Entry). x .kind) e))))
-      go (gone z i) f = absurd (omega (arith, l .indirect))
+          absurd (omega (arith, k .older, deed .above, ap (λ (x : Entry). x .nonce) e, inv .below n (omega (arith, l .indirect, ap (λ (x : Entry). x .kind) e))))
+      go (gone z τ i) f = absurd (omega (arith, l .indirect))
       go (issued a b i j f r) (kept e g h) =
           inside-same (at t′ n) (at t (parentNumber (at t′ n))) (at t′ n) (parent t′ n) refl e (j (l .indirect) .1)
-      go (issued a b i j f r) (gone z h) = absurd (k .full z)
+      go (issued a b i j f r) (gone z τ h) = absurd (k .full z)
       go (issued a b i j f r) (issued a′ b′ i′ j′ f′ r′) = absurd (omega (arith, k .older, j (l .indirect) .0))
 
   pub inv-step : Inv m (d .state) (d .table)
@@ -198,8 +213,8 @@ module _ (m : ℕ) (s : State) (t : List ℕ) (q : Request) (d : Decision) (inv 
     where
       go : F n → core (at t′ n) ≡ core (at t n)
       go (kept e g h) = e
-      go (gone z h) = absurd (k z)
-      go (issued a b i j f h) = absurd (omega arith)
+      go (gone z τ h) = absurd (k z)
+      go (issued a b i j f h) = absurd (omega (arith, deed .above))
 
   -- an entry whose nonce is new was given
   pub new-given : (n : ℕ) → at t′ n .kind ≢ 0 → s .next ≤ at t′ n .nonce → List·Memᴰ (nameOf n (at t′ n)) (d .issued)
@@ -207,7 +222,7 @@ module _ (m : ℕ) (s : State) (t : List ℕ) (q : Request) (d : Decision) (inv 
     where
       go : F n → List·Memᴰ (nameOf n (at t′ n)) (d .issued)
       go (kept e g h) = absurd (omega (arith, ap (λ (x : Entry). x .nonce) e, inv .below n (subst (λ (x : Entry). x .kind ≢ 0) e k)))
-      go (gone z h) = absurd (k z)
+      go (gone z τ h) = absurd (k z)
       go (issued a b i j f h) = i
 
   -- a segment that is locked for another task stays, unless it is revoked
@@ -217,5 +232,5 @@ module _ (m : ℕ) (s : State) (t : List ℕ) (q : Request) (d : Decision) (inv 
     where
       go : F n → (core (at t′ n) ≡ core (at t n)) × ((at t′ n .locked ≡ at t n .locked) × (at t′ n .holder ≡ at t n .holder))
       go (kept e g h) = (e, h l)
-      go (gone z h) = absurd (h l)
+      go (gone z τ h) = absurd (h l)
       go (issued a b i j f h) = absurd (r (h l))

@@ -11,13 +11,13 @@ use borrow.Author.Tests.{le-leb, leb-true}
 use Rattle.layout.specs.declared.entry.Entry.{Entry}
 use Rattle.machine.specs.Demand3.{resetCall}
 use Rattle.machine.specs.FreeTotal.{Beside, handedTotal, InRange, Kept, Sides, Unseen}
-use Rattle.machine.specs.Issuing.{passOver}
+use Rattle.machine.specs.Issuing.{newNumber, passOver}
 use Rattle.machine.specs.Operations.{Decision, Grant, grant, granted}
 use Rattle.machine.specs.Parts.{at, mostFree, size, spent, State, totalled}
 use Rattle.machine.specs.Requests.{access, Call, clone, create, derive, dump, executeOnly, load, lock, merge, release, Request, reset, revoke, unlock}
 use Rattle.machine.specs.Steps.{answer, answers, bufferAfter, decide, decision, Machine, memoryAfter, pass, run, settle, step, stop, Verdict, verdict}
 use Rattle.machine.specs.Stops.{checks, places}
-use Rattle.machine.specs.Writes.{alter, begin, Book, give, opened, reissue, renew, vacate, Write, write, written}
+use Rattle.machine.specs.Writes.{alter, begin, Book, give, opened, reissue, vacate, Write, write, written}
 use Rattle.machine.proofs.Decided.{away, sizes-passed, taken, Turned, turned}
 use Rattle.machine.proofs.Runs.{anew, count-reset, other, Reset, reset-or-not, step-tally, step-well, Well, well-reset}
 use Rattle.machine.proofs.WriteLaws.{ranged-after}
@@ -102,9 +102,8 @@ nonce-same (suc tries) s k n e old ν = rw (nonce-same tries s k n e old (ν + 1
 
 write-same : (c : ℕ) (b : Book) (k : ℕ) (w : Write) → write c (over b k) w ≡ over (write c b w) (write c (over b k) w .state .total)
 write-same c b k (begin m k0 k1 ν) = refl
-write-same c b k (give e) = refl
-write-same c b k (reissue n e) = refl
-write-same c b k (renew n e) = rw (nonce-same (spent - b .state .next) (b .state) k n e (at (b .table) n .tag) (b .state .next))
+write-same c b k (give e) = let n = newNumber (b .state) (b .table) in rw (nonce-same (spent - b .state .next) (b .state) k n e (at (b .table) n .tag) (b .state .next))
+write-same c b k (reissue n e) = rw (nonce-same (spent - b .state .next) (b .state) k n e (at (b .table) n .tag) (b .state .next))
 write-same c b k (vacate n) = refl
 write-same c b k (alter n e) = refl
 

@@ -9,21 +9,20 @@ use native.Mathlib.Omega.{arith}
 use native.Mathlib.Decide.{decLt, ℕ-discrete}
 use lib.Dec.{eqb, leb, ltb}
 use borrow.Author.Tests.{eqb-true, eqb-false, le-ltb, lt-ltb, ltb-true}
-use Rattle.layout.specs.Entry.{free}
 use Rattle.layout.specs.Form.{illFormed}
 use Rattle.layout.specs.declared.entry.Entry.{Entry}
 use Rattle.layout.specs.Entry.{Laid, laidDirect, laidIndirect}
 use Rattle.layout.proofs.FormLaws.{laid}
 use Rattle.machine.specs.Demand3.{above, itself, Owns}
-use Rattle.machine.specs.Issuing.{after, issue, newNumber, passOver, seek}
+use Rattle.machine.specs.Issuing.{after, issue, lastHeld, newNumber, otherNonce, passOver, seek}
 use Rattle.machine.specs.Line.{isDead, isIll, Line, linked, lineOf, ownerOf, parentNumber, walk}
-use Rattle.machine.specs.Operations.{climb, fresh, revokeNonce}
-use Rattle.machine.specs.Parts.{at, put, size, spent, State}
+use Rattle.machine.specs.Operations.{climb}
+use Rattle.machine.specs.Parts.{at, size, spent, State}
 use Rattle.machine.specs.Searches.{FirstFree, FirstOther, NoneFree, onward, SameTag}
-use Rattle.machine.specs.Writes.{vacate, Write}
+use Rattle.machine.specs.Writes.{vacate, vacated, Write}
 use Rattle.machine.proofs.Basics.{link, parent}
 use Rattle.machine.proofs.Choices.{by-both, by-cond}
-use Rattle.machine.proofs.TableLaws.{at-other}
+use Rattle.machine.proofs.TableLaws.{vacated-other}
 
 -- ---- up a line
 
@@ -106,8 +105,8 @@ climb-fuel (suc f) (suc g) t n h i =
     let o : at t p .nonce < at t n .nonce = link (at t n) (parent t n) l .older in
     -- the parent is another entry, so that it is still there when the child is freed
     let apart : p ≢ n = λ e. omega (arith, ap (λ (k : ℕ). at t k .nonce) e) in
-    let e : at (put t n free) p .nonce ≡ at t p .nonce = ap (λ (x : Entry). x .nonce) (at-other t n p free apart) in
-    ap (λ ws. vacate n ∷ ws) (climb-fuel f g (put t n free) p (omega arith) (omega arith)))
+    let e : at (vacated t n) p .nonce ≡ at t p .nonce = ap (λ (x : Entry). x .nonce) (vacated-other t n p apart) in
+    ap (λ ws. vacate n ∷ ws) (climb-fuel f g (vacated t n) p (omega arith) (omega arith)))
     (λ l. refl))))
   where
     Same : List Write → List Write → Type 0
@@ -207,7 +206,7 @@ number-first s t h = go (decLt 1 (size t))
     go (yes b) = seek-first (size t - 1) t (s .last) b h
     go (no b) = let z : size t - 1 ≡ 0 = omega arith in absurd (h (rw z))
 
--- ---- the nonce of a revoke
+-- ---- the nonce of an issue
 
 -- what comes of so many tries: all nonces before it have the old tag, and it has another unless the tries are used up
 pub record Tried (s : State) (n : ℕ) (e : ℕ → Entry) (old ν tries r : ℕ) : Type 0 where
@@ -231,19 +230,22 @@ pass-over (suc f) s n e old ν =
         same x i j (yes q) = rw q h
         same x i j (no q) = d .passed x (omega arith) j
 
--- it is not below the next one, nor past the last
-pub revoke-least : (s : State) (t : List ℕ) (n : ℕ) → s .next ≤ revokeNonce s t n
-revoke-least s t n = pass-over (spent - s .next) s n (fresh (at t n)) (at t n .tag) (s .next) .from
+-- e is issued under number n
+module _ (s : State) (t : List ℕ) (n : ℕ) (e : ℕ → Entry) where
+  tried : Tried s n e (lastHeld t n) (s .next) (spent - s .next) (otherNonce s t n e)
+  tried = pass-over (spent - s .next) s n e (lastHeld t n) (s .next)
 
-pub revoke-most : (s : State) (t : List ℕ) (n : ℕ) → s .next ≤ spent → revokeNonce s t n ≤ spent
-revoke-most s t n h = omega (arith, pass-over (spent - s .next) s n (fresh (at t n)) (at t n .tag) (s .next) .to)
+  -- its nonce is not below the next one, nor past the last
+  pub other-least : s .next ≤ otherNonce s t n e
+  other-least = tried .from
 
--- "nonces spent" is said only if each nonce that is left has the old tag
-pub revoke-spent : (s : State) (t : List ℕ) (n : ℕ) → revokeNonce s t n ≡ spent → SameTag s n (fresh (at t n)) (at t n .tag) (s .next) spent
-revoke-spent s t n h = rw h at (pass-over (spent - s .next) s n (fresh (at t n)) (at t n .tag) (s .next) .passed)
+  pub other-most : s .next ≤ spent → otherNonce s t n e ≤ spent
+  other-most h = omega (arith, tried .to)
 
--- and a nonce that is taken is the first with another tag
-pub revoke-first : (s : State) (t : List ℕ) (n : ℕ) → revokeNonce s t n < spent → FirstOther s n (fresh (at t n)) (at t n .tag) (s .next) (revokeNonce s t n)
-revoke-first s t n h =
-    let d : Tried s n (fresh (at t n)) (at t n .tag) (s .next) (spent - s .next) (revokeNonce s t n) = pass-over (spent - s .next) s n (fresh (at t n)) (at t n .tag) (s .next) in
-    record { from = d .from; passed = d .passed; other = d .other (omega arith) }
+  -- "too few left" is said only if each nonce that is left gives the tag that was last held
+  pub other-spent : otherNonce s t n e ≡ spent → SameTag s n e (lastHeld t n) (s .next) spent
+  other-spent h = rw h at (tried .passed)
+
+  -- and a nonce that is taken is the first that gives another
+  pub other-first : otherNonce s t n e < spent → FirstOther s n e (lastHeld t n) (s .next) (otherNonce s t n e)
+  other-first h = record { from = tried .from; passed = tried .passed; other = tried .other (omega (arith, tried .from)) }

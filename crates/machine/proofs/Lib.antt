@@ -12,6 +12,7 @@ pub mod FromReset
 pub mod Fuel
 pub mod Given
 pub mod Grants
+pub mod LastToken
 pub mod Lent
 pub mod LoadImages
 pub mod PlaceLaws

@@ -7,7 +7,7 @@ use Rattle.bits.specs.SipHash.{absorb, add64, compress, finish, padded, rotl, s
 use Rattle.hex.specs.Record.{byte, digit, malformed, verdict, wrongSum}
 use Rattle.hex.specs.Text.{lines, read, said}
 use Rattle.hex.specs.Written.{capital, dataRecords, lineOf, written}
-use Rattle.layout.specs.Entry.{directNumber, directOf, entryNumber, entryOf, indirectNumber, indirectOf}
+use Rattle.layout.specs.Entry.{directNumber, directOf, entryNumber, entryOf, freeNumber, indirectNumber, indirectOf}
 use Rattle.layout.specs.Form.{illFormed}
 use Rattle.layout.specs.Tag.{tagOf}
 use Rattle.leases.specs.Lease.{allSound, covers, firstLeases, isOpen, leaseAt, leasesOf}
@@ -22,5 +22,5 @@ use Rattle.machine.specs.Recordings.{bytesMoved, limits, sessions}
 use Rattle.machine.specs.Steps.{answer, decide, step}
 
 pub sessions-agree : Recorded sessions (bytesMoved ++ limits)
-unfolding bytes number lowBytes lowNumber directNumber directOf entryNumber entryOf indirectNumber indirectOf illFormed allSound covers firstLeases isOpen leaseAt leasesOf within absorb add64 compress finish padded rotl siphash sipRound word tagOf passOver seek walk climb at cleared put size decide step answer byte digit malformed verdict wrongSum lines read said capital dataRecords lineOf written piecesOf spares
+unfolding bytes number lowBytes lowNumber directNumber directOf entryNumber entryOf freeNumber indirectNumber indirectOf illFormed allSound covers firstLeases isOpen leaseAt leasesOf within absorb add64 compress finish padded rotl siphash sipRound word tagOf passOver seek walk climb at cleared put size decide step answer byte digit malformed verdict wrongSum lines read said capital dataRecords lineOf written piecesOf spares
 sessions-agree = (refl, refl)

@@ -195,10 +195,14 @@ module _ (m : ℕ) (t : List ℕ) (k0 k1 ν : ℕ) (lo : 1 ≤ m) (hi : m ≤ mo
         inside = λ n l. absurd (omega (arith, l .indirect, ap (λ (x : Entry). x .kind) (only n (omega (arith, l .indirect)) (firsts n) .1)));
         tiled = λ n k x a b. only n (omega (arith, a .direct)) (firsts n) .0 ∙ sym (only k (omega (arith, b .direct)) (firsts k) .0);
         covered = λ x h. record { owner = 0; has = record { direct = ap (λ (e : Entry). e .kind) there; inside = rw there (omega arith) } };
-        good = first (λ n e. Good m e) root-good (λ n i. rw at-cleared (free-good m));
+        good = first (λ n e. Good m e) root-good (λ n i. rw at-cleared (free-good m (omega arith)));
         small = hi;
         most = omega (arith, size-put (cleared t) 0 (root m), size-cleared t);
       }
+
+  -- no tag is kept, and the root has tag 0
+  pub reset-held : (n : ℕ) → at clean n .tag ≡ 0
+  reset-held = first (λ n e. e .tag ≡ 0) refl (λ n i. rw at-cleared refl)
 
   pub reset-sum : ownedInAll clean ≡ m
   reset-sum = omega (arith, sum-first (λ n e. owned e) t (root m) (root-good .storable) (omega arith), owned-cleared t)
@@ -235,6 +239,10 @@ module _ (σ : Machine) (k0 k1 ν : ℕ) (b : List ℕ) (ok : Accepted σ (reset
   pub well-reset : Well (step σ (resetCall k0 k1 ν b))
   unfolding step
   well-reset = rw (fine .1) (reset-inv m t k0 k1 ν lo hi least most pos)
+
+  pub held-reset : (n : ℕ) → at (step σ (resetCall k0 k1 ν b) .table) n .tag ≡ 0
+  unfolding step
+  held-reset = rw (fine .1) (reset-held m t k0 k1 ν lo hi least most pos)
 
   pub sum-reset : ownedInAll (step σ (resetCall k0 k1 ν b) .table) ≡ length (step σ (resetCall k0 k1 ν b) .memory)
   unfolding step

@@ -1,21 +1,24 @@
 -- The table as bytes: an entry that was put is there, the others stay, and so does the length. Nothing else opens `at`, `put`, `size`, `cleared`.
 -- Assumes nothing.
-use mathlib.Core.Path.{_≡_, sym, subst, _∙_, ap}
+use mathlib.Core.Path.{_≡_, refl, sym, subst, _∙_, ap}
 use mathlib.Core.Logic.{_≢_}
 use mathlib.Core.Bool.{false}
 use mathlib.Core.List.{List, append-assoc}
-use Prim.Native.Nat.{ℕ, _*_, _/_, _≤_, _<_}
+use Prim.Native.Nat.{ℕ, _*_, _/_, _^_, _≤_, _<_}
 use native.Mathlib.Omega.{arith}
 use native.Mathlib.Decide.{decLt}
 use lib.ListN.{length, take, drop, replicate, length-replicate, getD-replicate, length-drop, length-take, take-append-drop}
 use lib.Seq.{sets, sets-eq, length-sets, drop-drop}
 use borrow.Author.Tests.{lt-ltb, le-ltb}
-use Rattle.layout.specs.Entry.{entryAt, entryBytes, entryNumber, free, Storable}
+use Rattle.layout.specs.Entry.{entryAt, entryBytes, entryNumber, free, freed, isFree, Storable}
 use Rattle.layout.specs.Form.{illFormed}
 use Rattle.layout.specs.declared.entry.Entry.{Entry}
 use Rattle.bits.proofs.ByteLaws.{length-bytes}
+use Rattle.layout.proofs.EntryLaws.{read-small}
 use Rattle.layout.proofs.FormLaws.{free-back, well-formed-back, written-read}
+use Rattle.machine.specs.Issuing.{lastHeld}
 use Rattle.machine.specs.Parts.{at, cleared, put, size}
+use Rattle.machine.specs.Writes.{vacated}
 use Rattle.bits.specs.Bytes.{AllBytes}
 use Rattle.bits.proofs.ByteLists.{bytes-drop, bytes-sets, bytes-take, bytes-zeros}
 use Rattle.machine.proofs.ByteLaws.{bytes-fit, entry-bytes}
@@ -81,6 +84,28 @@ in-table t n h = go (decLt n (size t))
     go : Dec (n < size t) → n < size t
     go (yes i) = i
     go (no i) = absurd (h (ap (λ (e : Entry). e .kind) (at-out t n (omega arith))))
+
+-- ---- an entry that is freed
+
+-- a tag fits, so that a free entry can keep it
+pub held-small : (t : List ℕ) (n : ℕ) → lastHeld t n < 2 ^ 16
+held-small t n = go (decLt n (size t))
+  where
+    go : Dec (n < size t) → lastHeld t n < 2 ^ 16
+    go (yes i) = subst (λ (e : Entry). e .tag < 2 ^ 16) (sym (at-in t n i)) (read-small _ .0)
+    go (no i) = subst (λ (e : Entry). e .tag < 2 ^ 16) (sym (at-out t n (omega arith))) (omega arith)
+
+pub freed-storable : (t : List ℕ) (n : ℕ) → Storable (freed (lastHeld t n))
+freed-storable t n = isFree (held-small t n) refl
+
+-- it is there with its tag, and the others stay
+pub vacated-same : (t : List ℕ) (n : ℕ) → n < size t → at (vacated t n) n ≡ freed (lastHeld t n)
+vacated-same t n h = at-same t n (freed (lastHeld t n)) (freed-storable t n) h
+
+pub vacated-other : (t : List ℕ) (n i : ℕ) → i ≢ n → at (vacated t n) i ≡ at t i
+vacated-other t n i h = at-other t n i (freed (lastHeld t n)) h
+
+-- ---- an entry put where it stands
 
 -- an entry that is neither free nor ill-formed, put where it stands, leaves every byte
 pub put-back : (m : ℕ) (t : List ℕ) (n : ℕ) → AllBytes t → at t n .kind ≢ 0 → illFormed m (at t n) ≡ false → put t n (at t n) ≡ t

@@ -7,7 +7,7 @@ use Prim.Native.Nat.{ℕ, _+_, _≤_, _<_}
 use native.Mathlib.Omega.{arith}
 use lib.Dec.{eqb, ltb}
 use borrow.Author.Tests.{eqb-false, eqb-true, ltb-false, ltb-true}
-use Rattle.layout.specs.Entry.{free, isFree, Storable}
+use Rattle.layout.specs.Entry.{freed, Storable}
 use Rattle.layout.specs.declared.entry.Entry.{Entry}
 use Rattle.machine.specs.FreeTotal.{freeInAll, vacant}
 use Rattle.machine.specs.Parts.{at, mostFree, put, size}
@@ -44,27 +44,27 @@ tally-keep t n e k f full full′ =
     record { low = λ h. omega arith; high = λ h. omega arith }
 
 -- an entry is freed
-pub tally-free : (t : List ℕ) (n k : ℕ) → at t n .kind ≢ 0 → Tally t k (put t n free) (oneMore (mostFree t) n k)
-tally-free t n k full =
-    by-cond (λ x. Tally t k (put t n free) x) (eqb n 0)
+pub tally-free : (t : List ℕ) (n g k : ℕ) → Storable (freed g) → at t n .kind ≢ 0 → Tally t k (put t n (freed g)) (oneMore (mostFree t) n k)
+tally-free t n g k st full =
+    by-cond (λ x. Tally t k (put t n (freed g)) x) (eqb n 0)
     (λ z. same (omega (arith, c, none, zero-free (eqb-true n 0 z))))
     (λ z.
-    let one = vacant-free n free (eqb-false n 0 z) refl in
-    by-cond (λ x. Tally t k (put t n free) x) (ltb k (mostFree t))
+    let one = vacant-free n (freed g) (eqb-false n 0 z) refl in
+    by-cond (λ x. Tally t k (put t n (freed g)) x) (ltb k (mostFree t))
     (λ j. record { low = λ h. omega (arith, c, none); high = λ h. omega (arith, c, none) })
     (λ j. record { low = λ h. omega (arith, c, none); high = λ h. omega (arith, ltb-false k (mostFree t) j, most) }))
   where
-    c : freeInAll (put t n free) + vacant n (at t n) ≡ freeInAll t + vacant n free
-    c = sum-put vacant t n free (isFree refl) (in-table t n full)
+    c : freeInAll (put t n (freed g)) + vacant n (at t n) ≡ freeInAll t + vacant n (freed g)
+    c = sum-put vacant t n (freed g) st (in-table t n full)
 
     none : vacant n (at t n) ≡ 0
     none = vacant-full n (at t n) full
 
-    most : freeInAll (put t n free) ≤ mostFree t
-    most = omega (arith, free-most (put t n free), size-put t n free)
+    most : freeInAll (put t n (freed g)) ≤ mostFree t
+    most = omega (arith, free-most (put t n (freed g)), size-put t n (freed g))
 
-    zero-free : n ≡ 0 → vacant n free ≡ 0
+    zero-free : n ≡ 0 → vacant n (freed g) ≡ 0
     zero-free z = rw z refl
 
-    same : freeInAll (put t n free) ≡ freeInAll t → Tally t k (put t n free) k
-    same e = tally-same t (put t n free) e refl
+    same : freeInAll (put t n (freed g)) ≡ freeInAll t → Tally t k (put t n (freed g)) k
+    same e = tally-same t (put t n (freed g)) e refl

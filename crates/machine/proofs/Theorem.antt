@@ -12,10 +12,10 @@ use lib.Seq.{ext-getD}
 use borrow.Author.Tests.{eqb-true, leb-true}
 use Rattle.tokens.specs.Token.{named}
 use Rattle.layout.specs.declared.entry.Entry.{Entry}
-use Rattle.machine.specs.Demand3.{above, Accepted, Alike, Closed, Demand3, In, IsReset, issuedIn, itself, LockedFor, NoneCarries, NoReset, Owns, resetCall, Revokes, revokes, Under, Unreset, Unrevoked}
-use Rattle.machine.specs.Issuing.{issue}
+use Rattle.machine.specs.Demand3.{above, Accepted, Alike, Closed, Demand3, In, IsReset, issuedIn, itself, LockedFor, NoneCarries, NoReset, Owns, resetCall, Returns, Revokes, revokes, Under, Unreset, Unrevoked}
+use Rattle.machine.specs.Issuing.{issue, otherNonce}
 use Rattle.machine.specs.Line.{lineOf, ownerOf, parentNumber}
-use Rattle.machine.specs.Operations.{carried, Decision, fresh, grant, grantRevoke, numberOf, revokeNonce, store}
+use Rattle.machine.specs.Operations.{carried, Decision, fresh, grant, grantRevoke, numberOf, store}
 use Rattle.machine.specs.Parts.{at, put, spent}
 use Rattle.machine.specs.Requests.{access, Call, lock, Request, taskOf}
 use Rattle.machine.specs.Steps.{answer, answers, bufferAfter, decide, decision, Machine, memoryAfter, run, step}
@@ -26,7 +26,8 @@ use Rattle.machine.proofs.Decided.{accepted, away, Passed, taken, Turne
 use Rattle.machine.proofs.Deeds.{revoked-good}
 use Rattle.machine.proofs.Effects.{buffer-agree, memory-agree, memory-long, memory-other, zeros}
 use Rattle.machine.proofs.Fates.{core, Deed, Fate, gone, issued, kept, linked-same, Shut, shut-stays, spares, Touches}
-use Rattle.machine.proofs.Fuel.{Live, revoke-least, walk-owns}
+use Rattle.machine.proofs.Fuel.{Live, other-least, walk-owns}
+use Rattle.machine.proofs.LastToken.{given-held, returns, root-held}
 use Rattle.machine.proofs.Runs.{deed-of, none-append, none-granted, none-split, NotReset, run-append, run-new, run-old, run-up, run-well, step-up, step-well, Well, well-reset}
 use Rattle.machine.proofs.SliceLaws.{all-zeros}
 use Rattle.machine.proofs.TableLaws.{at-same, in-table}
@@ -91,7 +92,7 @@ record Wipe (σ : Machine) (s : ℕ) (r : Call) : Type 0 where
   encoding : ℕ
   done : decision σ r ≡ carried (σ .state) (σ .table) (grantRevoke (σ .table) s encoding)
   direct : at (σ .table) s .kind ≡ 1
-  left : revokeNonce (σ .state) (σ .table) s < spent
+  left : otherNonce (σ .state) (σ .table) s (fresh (at (σ .table) s)) < spent
 
 wipe : (σ : Machine) (s : ℕ) (r : Call) → Revokes (r .request) s → Accepted σ r → Wipe σ s r
 wipe σ s r v a = go (r .request) v (accepted σ r a .0) (accepted σ r a .1)
@@ -105,15 +106,16 @@ wipe σ s r v a = go (r .request) v (accepted σ r a .0) (accepted σ r a .1)
           encoding = c;
           done = e ∙ ap (λ (i : ℕ). carried (σ .state) (σ .table) (grantRevoke (σ .table) i c)) n;
           direct = subst (λ (i : ℕ). at (σ .table) i .kind ≡ 1) n (eqb-true (at (σ .table) (numberOf k) .kind) 1 (search));
-          left = subst (λ (i : ℕ). revokeNonce (σ .state) (σ .table) i < spent) n (omega (arith, leb-true (revokeNonce (σ .state) (σ .table) (numberOf k) + 1) spent (search)));
+          left = subst (λ (i : ℕ). otherNonce (σ .state) (σ .table) i (fresh (at (σ .table) i)) < spent) n (omega (arith, leb-true (otherNonce (σ .state) (σ .table) (numberOf k) (fresh (at (σ .table) (numberOf k))) + 1) spent (search)));
         }
 
 -- the new entry has a new nonce
 revoke-nonce : (σ : Machine) (s : ℕ) (r : Call) → Well σ → Wipe σ s r → σ .state .next ≤ at (step σ r .table) s .nonce
 unfolding step
 revoke-nonce σ s r inv w =
-    let e : Entry = issue (σ .state) s (fresh (at (σ .table) s) (revokeNonce (σ .state) (σ .table) s)) in
-    let up : σ .state .next ≤ revokeNonce (σ .state) (σ .table) s = revoke-least (σ .state) (σ .table) s in
+    let ν : ℕ = otherNonce (σ .state) (σ .table) s (fresh (at (σ .table) s)) in
+    let e : Entry = issue (σ .state) s (fresh (at (σ .table) s) ν) in
+    let up : σ .state .next ≤ ν = other-least (σ .state) (σ .table) s (fresh (at (σ .table) s)) in
     let good : Good (length (σ .memory)) e = revoked-good (length (σ .memory)) (σ .state) (σ .table) inv s (w .direct) (w .left) in
     let new : at (put (σ .table) s e) s ≡ e = at-same (σ .table) s e (good .storable) (in-table (σ .table) s (omega (arith, w .direct))) in
     rw (w .done, new) up
@@ -137,7 +139,7 @@ owns-old σ qs inv nr (above {n = n} {m = i} l o) h =
 module _ (ρ : Machine) (inv₀ : Well ρ) (after qs : List Call) (nr : Unreset ρ (after ++ qs)) (s t : ℕ) (lk : LockedFor (run ρ after) s t) (n : NoneCarries t qs)
     (un : Unrevoked (run ρ after) qs s) (r : Call) (v : Revokes (r .request) s) (acc : Accepted (run ρ (after ++ qs)) r) (zs : List Call) (nz : Unreset (step (run ρ (after ++ qs)) r) zs)
     (a b : List Call) (ab : a ++ b ≡ after ++ qs) (k : Name) (u : Under (run ρ a .table) (at (run ρ after .table) s) k)
-    (fr : List·Memᴰ k (issuedIn (run ρ a) (b ++ (r ∷ zs))) → ⊥) where
+    (has : at (run ρ a .table) (k .number) .tag ≡ k .tag) (fr : Returns (run ρ a) (b ++ (r ∷ zs)) k → ⊥) where
   abbrev A : Machine
   A = run ρ a
 
@@ -204,7 +206,7 @@ module _ (ρ : Machine) (inv₀ : Well ρ) (after qs : List Call) (nr : Unreset 
 
       go : Dec (at (D .table) (k .number) .nonce < A .state .next) → at (D .table) (k .number) .nonce < A .state .next
       go (yes i) = i
-      go (no i) = absurd (fr (subst (λ (x : ℕ). List·Memᴰ (record { number = k .number; tag = x }) (issuedIn A (b ++ (r ∷ zs)))) g (new f (omega arith))))
+      go (no i) = absurd (fr (returns A (b ++ (r ∷ zs)) k A-inv none-on has (subst (λ (x : ℕ). List·Memᴰ (record { number = k .number; tag = x }) (issuedIn A (b ++ (r ∷ zs)))) g (new f (omega arith)))))
 
   -- were its line live, its owner would be s as it was before the revoke
   not-live : {i : ℕ} → Owns (D .table) (k .number) i → at (D .table) (k .number) .nonce < A .state .next → ⊥
@@ -354,9 +356,9 @@ revoked-or-not σ s t q inv nr lk h = go (turned σ q) (decLt (at (decision σ q
     shut : Shut (taskOf (q .request)) (at (σ .table) s)
     shut = lock-shut σ s t q lk h
 
-    fated : (at (decision σ q .table) s .nonce < σ .state .next → ⊥) → Fate (σ .state) (σ .table) (q .request) (decision σ q .state .next) (decision σ q .issued) (deed-of σ q inv nr .moves) s (at (decision σ q .table) s) → Revokes (q .request) s
+    fated : (at (decision σ q .table) s .nonce < σ .state .next → ⊥) → Fate (σ .table) (q .request) (deed-of σ q inv nr .least) (decision σ q .state .next) (decision σ q .issued) (deed-of σ q inv nr .moves) s (at (decision σ q .table) s) → Revokes (q .request) s
     fated i (kept c g k) = absurd (i (omega (arith, ap (λ (x : Entry). x .nonce) c, inv .below s (omega (arith, lk .direct)))))
-    fated i (gone z k) = absurd (k shut)
+    fated i (gone z g k) = absurd (k shut)
     fated i (issued a b m j f k) = k shut
 
     go : Turned σ q → Dec (at (decision σ q .table) s .nonce < σ .state .next) → Revoke σ q s
@@ -450,6 +452,20 @@ from σ first l (c ∷ a) q b e =
       all = append-assoc a (q ∷ []) b ∙ tail;
     }
 
+-- and its number holds it then
+holding : (σ : Machine) (k0 k1 ν : ℕ) (buffer : List ℕ) (l a : List Call) (q : Call) (b : List Call) (k : Name) → Accepted σ (resetCall k0 k1 ν buffer) → Unreset (step σ (resetCall k0 k1 ν buffer)) l
+    → a ++ (q ∷ b) ≡ resetCall k0 k1 ν buffer ∷ l → List·Memᴰ k (decision (run σ a) q .issued) → at (step (run σ a) q .table) (k .number) .tag ≡ k .tag
+holding σ k0 k1 ν buffer l [] q b k ok nr e m =
+    let head : resetCall k0 k1 ν buffer ≡ q = cc in
+    subst (λ (x : Call). List·Memᴰ k (decision σ x .issued) → at (step σ x .table) (k .number) .tag ≡ k .tag) head (root-held σ k0 k1 ν buffer k ok) m
+holding σ k0 k1 ν buffer l (c ∷ a) q b k ok nr e m =
+    let head : resetCall k0 k1 ν buffer ≡ c = cc in
+    let tail : l ≡ a ++ (q ∷ b) = cc in
+    let ρ : Machine = step σ (resetCall k0 k1 ν buffer) in
+    let both = none-split ρ a (q ∷ b) (subst (λ (x : List Call). Unreset ρ x) tail nr) in
+    subst (λ (x : Call). List·Memᴰ k (decision (run (step σ x) a) q .issued) → at (step (run (step σ x) a) q .table) (k .number) .tag ≡ k .tag) head
+    (given-held (run ρ a) q k (run-well ρ a (well-reset σ k0 k1 ν buffer ok) (both .0)) (both .1 .0)) m
+
 pub demand3 : Demand3
 unfolding Demand3
 demand3 σ k0 k1 ν buffer ok after nr s t lk τ₁ τ₂ a b qs nq nc =
@@ -466,7 +482,7 @@ demand3 σ k0 k1 ν buffer ok after nr s t lk τ₁ τ₂ a b qs nq nc =
           let w : From σ first (after ++ qs) x q y = from σ first (after ++ qs) x q y xy in
           rw one
           (shut-off ρ inv₀ after qs (none-append ρ after qs nr (none-granted (run ρ after) qs nq)) s t lk nc (unrevoked-same e s t τ₁ (run ρ after) qs ts nq nc (f .before)) r (f .names) acc zs (subst (λ (x : Machine). Unreset x zs) one nz)
-          (w .way) y (w .all) k (rw (w .comes) u) (rw (w .comes) fr));
+          (w .way) y (w .all) k (rw (w .comes) u) (rw (w .comes) (holding σ k0 k1 ν buffer (after ++ qs) x q y k ok (none-append ρ after qs nr (none-granted (run ρ after) qs nq)) xy given)) (rw (w .comes) fr));
     }
   where
     first : Call

@@ -19,7 +19,7 @@ use Rattle.tokens.specs.Token.{named}
 use Rattle.machine.specs.Demand3.{Accepted}
 use Rattle.machine.specs.FromReset.{Sound}
 use Rattle.machine.specs.Given.{nameIn}
-use Rattle.machine.specs.Issuing.{issue, newNumber}
+use Rattle.machine.specs.Issuing.{issue, newNumber, otherNonce}
 use Rattle.machine.specs.Line.{dead, ill, Line, linked, lineOf, lockedFrom, owner, ownerOf, parentNumber, walk}
 use Rattle.machine.specs.Operations.{childOf, Grant, grant, namedEntry, numberOf}
 use Rattle.machine.specs.Parts.{at, mostEntries, mostFree, mostMemory, moved, put, size, spent, State}
@@ -32,8 +32,8 @@ use Rattle.machine.specs.WholeDerive.{accessCall, AsExecuteOnly, Bounds,
 use Rattle.machine.specs.Writes.{Name, nameOf, oneLess, tokenFor}
 use Rattle.machine.proofs.Basics.{link, neqb-true, owner-direct, parent, range}
 use Rattle.machine.proofs.Choices.{by-both, by-cond}
-use Rattle.machine.proofs.Decided.{accepted, AllTrue, need-all, Passed, passed-join, passing, sizes-passed, true-join}
-use Rattle.machine.proofs.Fuel.{line-enough, Live, number-first, walk-owns}
+use Rattle.machine.proofs.Decided.{accepted, AllTrue, andThen, need-all, Passed, passed-join, passed-split, passing, sizes-passed, true-join, verdict-append}
+use Rattle.machine.proofs.Fuel.{line-enough, Live, number-first, other-least, walk-owns}
 use Rattle.machine.proofs.ShiftWindows.{Held, within-held}
 use Rattle.machine.proofs.TableLaws.{at-other, at-same, in-table, length-put, size-put}
 use Rattle.machine.proofs.WriteLaws.{names}
@@ -88,13 +88,29 @@ module _ (σ : Machine) (k p c : ℕ) (b : List ℕ) where
   abbrev long : ℕ
   long = lengthOf σ k
 
-  parts-granted : (o l : ℕ) → Accepted σ (deriveCall k o l p c b) → (o′ l′ : ℕ) → l′ ≢ 0 → l′ + o′ ≤ long → Accepted σ (deriveCall k o′ l′ p c b)
+  abbrev m₀ : ℕ
+  m₀ = length (σ .memory)
+
+  -- the checks of a derive but for place 11, and what place 11 asks
+  abbrev judged : (o l : ℕ) → List Check
+  judged o l = let q = places m₀ (σ .state) (σ .table) (derive k o l p c) b in needAll atRequest (sizes m₀ (σ .table) ++ q .request) ++ ((q .after ++ q .tokens) ++ q .rest)
+
+  abbrev nonces : (o l : ℕ) → Check
+  nonces o l = noncesLeft (σ .state) (σ .table) (grant m₀ (σ .table) (derive k o l p c) b)
+
+  parts-granted : (o l : ℕ) → Accepted σ (deriveCall k o l p c b) → (o′ l′ : ℕ) → l′ ≢ 0 → l′ + o′ ≤ long
+      → answer σ (deriveCall k o′ l′ p c b) .reply .refusal ≢ 11 → Accepted σ (deriveCall k o′ l′ p c b)
   unfolding answer decide
   parts-granted o l ok o′ l′ some ends =
-      let a : Passed (checks (length (σ .memory)) (σ .state) (σ .table) (derive k o l p c) b) = accepted σ (deriveCall k o l p c b) ok .0 in
-      let same : verdict (checks (length (σ .memory)) (σ .state) (σ .table) (derive k o′ l′ p c) b) ≡ verdict (checks (length (σ .memory)) (σ .state) (σ .table) (derive k o l p c) b) =
+      let a : Passed (checks m₀ (σ .state) (σ .table) (derive k o l p c) b) = accepted σ (deriveCall k o l p c b) ok .0 in
+      let front : verdict (judged o′ l′) ≡ verdict (judged o l) =
       rw (ne-eqb l 0 (neqb-true l 0 (search)), ne-eqb l′ 0 some, le-leb (l + o) long (leb-true (l + o) long (search)), le-leb (l′ + o′) long ends) in
-      rw (same, passing (checks (length (σ .memory)) (σ .state) (σ .table) (derive k o l p c) b) a)
+      let passes : verdict (judged o′ l′) ≡ pass = front ∙ passing (judged o l) (passed-split (judged o l) (nonces o l ∷ []) a .0) in
+      let last : verdict (judged o′ l′ ++ (nonces o′ l′ ∷ [])) ≡ verdict (nonces o′ l′ ∷ []) = verdict-append (judged o′ l′) (nonces o′ l′ ∷ []) ∙ ap (λ (v : Verdict). andThen v (verdict (nonces o′ l′ ∷ []))) passes in
+      rw last (by-cond (λ (v : Verdict). told v ≢ 11 → told v ≡ 0) (nonces o′ l′ .holds) (λ e h. refl) (λ e h. absurd (h refl)))
+    where
+      told : Verdict → ℕ
+      told v = settle v (σ .state) (σ .table) (grant m₀ (σ .table) (derive k o′ l′ p c) b) .reply .refusal
 
 pub parts : Parts
 unfolding Parts
@@ -140,8 +156,15 @@ module _ (σ : Machine) (fine : Sound σ) (k p c : ℕ) (b : List ℕ) (ok : Acc
   most : size t ≤ 1024
   most = let a : Passed (checks m s t (derive k 0 (e .length) p c) b) = all in leb-true (size t) mostEntries (search)
 
-  left-nonce : s .next + 1 ≤ spent
-  left-nonce = let a : Passed (checks m s t (derive k 0 (e .length) p c) b) = all in leb-true (s .next + 1) spent (search)
+  -- the child's nonce
+  abbrev ν : ℕ
+  ν = otherNonce s t new (childOf n e 0 (e .length) p)
+
+  left-nonce : ν + 1 ≤ spent
+  left-nonce = let a : Passed (checks m s t (derive k 0 (e .length) p c) b) = all in leb-true (ν + 1) spent (search)
+
+  not-below : s .next ≤ ν
+  not-below = other-least s t new (childOf n e 0 (e .length) p)
 
   good : Good m e
   good = record { storable = fine .storable n full; formed = fine .formed n full; lockable = fine .lockable n; counted = fine .counted n }
@@ -150,7 +173,7 @@ module _ (σ : Machine) (fine : Sound σ) (k p c : ℕ) (b : List ℕ) (ok : Acc
   low = omega (arith, in-table t n full, most)
 
   abbrev child : Entry
-  child = issue s new (childOf n e 0 (e .length) p (s .next))
+  child = issue s new (childOf n e 0 (e .length) p ν)
 
   child-good : Good m child
   child-good =
@@ -205,14 +228,14 @@ module _ (σ : Machine) (fine : Sound σ) (k p c : ℕ) (b : List ℕ) (ok : Acc
 
   linked-above : linked t′ child ≡ true
   linked-above =
-      rw (number-above, recounted-there n full .1, ne-eqb (e .kind) 0 full, parent-tagged m n e good low, eq-eqb (e .tag) (e .tag) refl, lt-ltb (e .nonce) (s .next) (fine .below n full))
+      rw (number-above, recounted-there n full .1, ne-eqb (e .kind) 0 full, parent-tagged m n e good low, eq-eqb (e .tag) (e .tag) refl, lt-ltb (e .nonce) ν (omega (arith, not-below, fine .below n full)))
 
   same-parent : Live (lineOf m t n) → lineOf m t′ n ≡ lineOf m t n
   same-parent l = ap (λ (x : Entry). walk (suc (x .nonce)) m t′ n) (recounted-there n full .1) ∙ same-up (suc (e .nonce)) n full l
 
   same-line : Live (lineOf m t n) → lineOf m t′ new ≡ lineOf m t n
   unfolding walk
-  same-line l = rw (there, child-good .formed, linked-above, number-above) (line-enough (s .next) m t′ n (rw (recounted-there n full .1) (fine .below n full)) ∙ same-parent l)
+  same-line l = rw (there, child-good .formed, linked-above, number-above) (line-enough ν m t′ n (rw (recounted-there n full .1) (omega (arith, not-below, fine .below n full))) ∙ same-parent l)
 
   -- and its lock too
   same-lock : (l : Line) (u : ℕ) → at t (ownerOf l) .kind ≢ 0 → Live l → lockedFrom t′ u l ≡ lockedFrom t u l
@@ -228,10 +251,10 @@ module _ (σ : Machine) (fine : Sound σ) (k p c : ℕ) (b : List ℕ) (ok : Acc
   token-names : nameIn token ≡ nameOf new child
   token-names =
       let a : Passed (checks m s t (derive k 0 (e .length) p c) b) = all in
-      names s c new (childOf n e 0 (e .length) p (s .next)) (leb-true c 3 (search)) (omega (arith, first .inside, most))
+      names s c new (childOf n e 0 (e .length) p ν) (leb-true c 3 (search)) (omega (arith, first .inside, most))
 
   abbrev s′ : State
-  s′ = moved s new (s .next + 1) (oneLess (s .total))
+  s′ = moved s new (ν + 1) (oneLess (s .total))
 
   abbrev σ′ : Machine
   σ′ = record { state = s′; table = t′; memory = σ .memory }
@@ -265,7 +288,7 @@ module _ (σ : Machine) (fine : Sound σ) (k p c : ℕ) (b : List ℕ) (ok : Acc
         let wide : size t′ ≡ size t = size-put _ _ _ ∙ size-put _ _ _ in
         true-join (sizes m t′) (settings s′ t′ ++ (taskFits u ∷ (transferFits d ++ shiftFits φ))) (rw (long, wide) (sizes-passed m s t (access w y u ψ) d h))
         (true-join (settings s′ t′) (taskFits u ∷ (transferFits d ++ shiftFits φ))
-        (rw wide (lt-ltb new (size t) (first .inside)), (le-leb 1 (s .next + 1) (omega arith), (le-leb (s .next + 1) spent left-nonce, (rw wide (le-leb (oneLess (s .total)) (mostFree t) (omega (arith, leb-true (s .total) (mostFree t) (search)))), tt))))
+        (rw wide (lt-ltb new (size t) (first .inside)), (le-leb 1 (ν + 1) (omega arith), (le-leb (ν + 1) spent left-nonce, (rw wide (le-leb (oneLess (s .total)) (mostFree t) (omega (arith, leb-true (s .total) (mostFree t) (search)))), tt))))
         (search, (search, (search, shift .fits))))
 
     -- the others
@@ -279,7 +302,7 @@ module _ (σ : Machine) (fine : Sound σ) (k p c : ℕ) (b : List ℕ) (ok : Acc
         let owned : at t (ownerOf (lineOf m t n)) .kind ≢ 0 = λ z. omega (arith, owner-direct (walk-owns (suc (e .nonce)) m t n full live)) in
         let line : lineOf m t′ (numberOf x) ≡ lineOf m t n = rw at-x (same-line live) in
         let open′ : not (lockedFrom t u (lineOf m t n)) ≡ true = rw (← at-y) (search) in
-        let ends : leb (named y .offset + length d) (e .length) ≡ true = rw (← at-y) (search) in (shift .sound, (rw (at-x, size-put, size-put) (lt-ltb new (size t) (first .inside)), (rw (at-x, there), (rw (at-x, there, tag-x) (eq-eqb (child .tag) (child .tag) refl), (rw line (live .0), (rw line (live .1), (rw (line, same-lock (lineOf m t n) u owned live) open′, (shift .opened, (rw (at-x, there) allowed, (rw (at-x, there, ox) ends, (le-leb (s .next + 1) spent left-nonce, tt)))))))))))
+        let ends : leb (named y .offset + length d) (e .length) ≡ true = rw (← at-y) (search) in (shift .sound, (rw (at-x, size-put, size-put) (lt-ltb new (size t) (first .inside)), (rw (at-x, there), (rw (at-x, there, tag-x) (eq-eqb (child .tag) (child .tag) refl), (rw line (live .0), (rw line (live .1), (rw (line, same-lock (lineOf m t n) u owned live) open′, (shift .opened, (rw (at-x, there) allowed, (rw (at-x, there, ox) ends, (le-leb (ν + 1) spent left-nonce, tt)))))))))))
 
     passes : Passed (checks m s′ t′ (access w x u φ) d)
     passes =

@@ -17,13 +17,13 @@ use Rattle.tokens.specs.Token.{NamedFits}
 use Rattle.tokens.specs.declared.token.Named.{Named}
 use Rattle.tokens.proofs.TokenLaws.{read-packed, small-fits, token-lt}
 use Rattle.machine.specs.Given.{AllWords, nameIn, namesIn}
-use Rattle.machine.specs.Issuing.{issue, newNumber}
+use Rattle.machine.specs.Issuing.{issue, newNumber, otherNonce}
 use Rattle.machine.specs.Line.{isLocked, lineOf, linked, parentNumber}
 use Rattle.machine.specs.Operations.{climb, grantRelease}
 use Rattle.machine.specs.Parts.{at, cleared, put, root, size, State, totalled}
-use Rattle.machine.specs.Writes.{alter, begin, Book, entered, give, Name, nameOf, oneLess, oneMore, otherNonce, reissue, renew, tokenFor, vacate, vacated, Write, write, written}
+use Rattle.machine.specs.Writes.{alter, begin, Book, entered, give, Name, nameOf, oneLess, oneMore, reissue, tokenFor, vacate, vacated, Write, write, written}
 use Rattle.machine.proofs.Choices.{by-cond}
-use Rattle.machine.proofs.Fuel.{number-first, pass-over}
+use Rattle.machine.proofs.Fuel.{number-first, other-least}
 use Rattle.machine.proofs.TableLaws.{size-cleared, size-put}
 
 -- ---- the table
@@ -34,7 +34,6 @@ module _ (P : List ℕ → Type 0) (puts : (t : List ℕ) (n : ℕ) (e : Entry) 
   table-written b (begin m k0 k1 ν) h = search (puts, clears)
   table-written b (give e) h = search (puts)
   table-written b (reissue n e) h = search (puts)
-  table-written b (renew n e) h = search (puts)
   table-written b (vacate n) h = search (puts)
   table-written b (alter n e) h = search (puts)
 
@@ -75,7 +74,6 @@ module _ (c z top : ℕ) (some : 0 < z) (all : z ≤ top) where
   ranged-written b (begin m k0 k1 ν) g = record { sized = size-put (cleared (b .table)) 0 (root m) ∙ size-cleared (b .table) ∙ g .sized; total = omega (arith, g .sized) }
   ranged-written b (give e) g = record { sized = size-put _ _ _ ∙ g .sized; total = less-inside _ top (g .total) }
   ranged-written b (reissue k e) g = record { sized = size-put _ _ _ ∙ g .sized; total = g .total }
-  ranged-written b (renew k e) g = record { sized = size-put _ _ _ ∙ g .sized; total = g .total }
   ranged-written b (vacate k) g = record { sized = size-put _ _ _ ∙ g .sized; total = more-inside (size (b .table)) k _ top (omega (arith, g .sized)) (g .total) }
   ranged-written b (alter k e) g = record { sized = size-put _ _ _ ∙ g .sized; total = g .total }
 
@@ -87,7 +85,6 @@ module _ (c z top : ℕ) (some : 0 < z) (all : z ≤ top) where
   last-written b (begin m k0 k1 ν) g = omega arith
   last-written b (give e) g = omega (arith, g .ranged .sized, number-inside (b .state) (b .table) (omega (arith, g .ranged .sized)))
   last-written b (reissue k e) g = g .last
-  last-written b (renew k e) g = g .last
   last-written b (vacate k) g = g .last
   last-written b (alter k e) g = g .last
 
@@ -103,20 +100,15 @@ Within z [] = Unit {0}
 Within z (begin m k0 k1 ν ∷ ws) = ⊥
 Within z (give e ∷ ws) = Within z ws
 Within z (reissue n e ∷ ws) = (n < z) × Within z ws
-Within z (renew n e ∷ ws) = (n < z) × Within z ws
 Within z (vacate n ∷ ws) = Within z ws
 Within z (alter n e ∷ ws) = Within z ws
-
-pub other-least : (s : State) (t : List ℕ) (n : ℕ) (e : ℕ → Entry) → s .next ≤ otherNonce s t n e
-other-least s t n e = pass-over _ s n e (at t n .tag) (s .next) .from
 
 -- the next nonce never falls
 pub next-up : (c z : ℕ) (b : Book) (ws : List Write) → Within z ws → b .state .next ≤ written c b ws .state .next
 next-up c z b [] h = omega arith
 next-up c z b (begin m k0 k1 ν ∷ ws) h = absurd h
-next-up c z b (give e ∷ ws) h = omega (arith, next-up c z (write c b (give e)) ws h)
-next-up c z b (reissue n e ∷ ws) h = omega (arith, next-up c z (write c b (reissue n e)) ws (h .1))
-next-up c z b (renew n e ∷ ws) h = omega (arith, other-least (b .state) (b .table) n e, next-up c z (write c b (renew n e)) ws (h .1))
+next-up c z b (give e ∷ ws) h = omega (arith, other-least (b .state) (b .table) (newNumber (b .state) (b .table)) e, next-up c z (write c b (give e)) ws h)
+next-up c z b (reissue n e ∷ ws) h = omega (arith, other-least (b .state) (b .table) n e, next-up c z (write c b (reissue n e)) ws (h .1))
 next-up c z b (vacate n ∷ ws) h = next-up c z (write c b (vacate n)) ws h
 next-up c z b (alter n e ∷ ws) h = next-up c z (write c b (alter n e)) ws h
 
@@ -129,7 +121,6 @@ key-kept c z b [] h = (refl, refl)
 key-kept c z b (begin m k0 k1 ν ∷ ws) h = absurd h
 key-kept c z b (give e ∷ ws) h = key-kept c z (write c b (give e)) ws h
 key-kept c z b (reissue n e ∷ ws) h = key-kept c z (write c b (reissue n e)) ws (h .1)
-key-kept c z b (renew n e ∷ ws) h = key-kept c z (write c b (renew n e)) ws (h .1)
 key-kept c z b (vacate n ∷ ws) h = key-kept c z (write c b (vacate n)) ws h
 key-kept c z b (alter n e ∷ ws) h = key-kept c z (write c b (alter n e)) ws h
 
@@ -139,7 +130,6 @@ giving [] = 0
 giving (begin m k0 k1 ν ∷ ws) = giving ws
 giving (give e ∷ ws) = suc (giving ws)
 giving (reissue n e ∷ ws) = suc (giving ws)
-giving (renew n e ∷ ws) = suc (giving ws)
 giving (vacate n ∷ ws) = giving ws
 giving (alter n e ∷ ws) = giving ws
 
@@ -151,7 +141,6 @@ given-tokens c b [] = omega arith
 given-tokens c b (begin m k0 k1 ν ∷ ws) = given-tokens c (write c b (begin m k0 k1 ν)) ws
 given-tokens c b (give e ∷ ws) = one-longer (b .tokens) _ _ _ (given-tokens c (write c b (give e)) ws)
 given-tokens c b (reissue n e ∷ ws) = one-longer (b .tokens) _ _ _ (given-tokens c (write c b (reissue n e)) ws)
-given-tokens c b (renew n e ∷ ws) = one-longer (b .tokens) _ _ _ (given-tokens c (write c b (renew n e)) ws)
 given-tokens c b (vacate n ∷ ws) = given-tokens c (write c b (vacate n)) ws
 given-tokens c b (alter n e ∷ ws) = given-tokens c (write c b (alter n e)) ws
 
@@ -178,8 +167,9 @@ pub record Told (z : ℕ) (b : Book) : Type 0 where
   pub words : AllWords (b .tokens)
 
 module _ (c z : ℕ) (encoded : c ≤ 3) (some : 0 < z) (most : z ≤ 1024) where
-  one-more : (b : Book) (last total n ν : ℕ) (e : ℕ → Entry) → n < z → Told z b → Told z (entered c b last total n ν e)
-  one-more b last total n ν e h g =
+  one-more : (b : Book) (last total n : ℕ) (e : ℕ → Entry) → n < z → Told z b → Told z (entered c b last total n e)
+  one-more b last total n e h g =
+      let ν : ℕ = otherNonce (b .state) (b .table) n e in
       let k : ℕ = tokenFor c (nameOf n (issue (b .state) n (e ν))) in
       record {
         sized = size-put _ _ _ ∙ g .sized;
@@ -191,9 +181,8 @@ module _ (c z : ℕ) (encoded : c ≤ 3) (some : 0 < z) (most : z ≤ 1024) wher
   named-after b [] h g = g
   named-after b (begin m k0 k1 ν ∷ ws) h g = absurd h
   named-after b (give e ∷ ws) h g =
-      named-after (write c b (give e)) ws h (one-more b _ _ (newNumber (b .state) (b .table)) (b .state .next) e (omega (arith, number-inside (b .state) (b .table) (omega (arith, g .sized)), g .sized)) g)
-  named-after b (reissue n e ∷ ws) h g = named-after (write c b (reissue n e)) ws (h .1) (one-more b _ _ n (b .state .next) e (h .0) g)
-  named-after b (renew n e ∷ ws) h g = named-after (write c b (renew n e)) ws (h .1) (one-more b _ _ n (otherNonce (b .state) (b .table) n e) e (h .0) g)
+      named-after (write c b (give e)) ws h (one-more b _ _ (newNumber (b .state) (b .table)) e (omega (arith, number-inside (b .state) (b .table) (omega (arith, g .sized)), g .sized)) g)
+  named-after b (reissue n e ∷ ws) h g = named-after (write c b (reissue n e)) ws (h .1) (one-more b _ _ n e (h .0) g)
   named-after b (vacate n ∷ ws) h g = named-after (write c b (vacate n)) ws h (record { sized = size-put _ _ _ ∙ g .sized; named = g .named; words = g .words })
   named-after b (alter n e ∷ ws) h g = named-after (write c b (alter n e)) ws h (record { sized = size-put _ _ _ ∙ g .sized; named = g .named; words = g .words })
 
@@ -204,7 +193,6 @@ Calm [] = Unit {0}
 Calm (begin m k0 k1 ν ∷ ws) = ⊥
 Calm (give e ∷ ws) = ⊥
 Calm (reissue n e ∷ ws) = ⊥
-Calm (renew n e ∷ ws) = ⊥
 Calm (vacate n ∷ ws) = Calm ws
 Calm (alter n e ∷ ws) = Calm ws
 
@@ -213,7 +201,6 @@ calm-giving [] h = refl
 calm-giving (begin m k0 k1 ν ∷ ws) h = absurd h
 calm-giving (give e ∷ ws) h = absurd h
 calm-giving (reissue n e ∷ ws) h = absurd h
-calm-giving (renew n e ∷ ws) h = absurd h
 calm-giving (vacate n ∷ ws) h = calm-giving ws h
 calm-giving (alter n e ∷ ws) h = calm-giving ws h
 
@@ -222,7 +209,6 @@ calm-within z [] h = tt
 calm-within z (begin m k0 k1 ν ∷ ws) h = absurd h
 calm-within z (give e ∷ ws) h = absurd h
 calm-within z (reissue n e ∷ ws) h = absurd h
-calm-within z (renew n e ∷ ws) h = absurd h
 calm-within z (vacate n ∷ ws) h = calm-within z ws h
 calm-within z (alter n e ∷ ws) h = calm-within z ws h
 
@@ -237,7 +223,6 @@ calm-still c b [] h = record { state = refl; issued = refl; tokens = refl }
 calm-still c b (begin m k0 k1 ν ∷ ws) h = absurd h
 calm-still c b (give e ∷ ws) h = absurd h
 calm-still c b (reissue n e ∷ ws) h = absurd h
-calm-still c b (renew n e ∷ ws) h = absurd h
 calm-still c b (vacate n ∷ ws) h = let k = calm-still c (write c b (vacate n)) ws h in record { state = k .state; issued = k .issued; tokens = k .tokens }
 calm-still c b (alter n e ∷ ws) h = let k = calm-still c (write c b (alter n e)) ws h in record { state = k .state; issued = k .issued; tokens = k .tokens }
 

@@ -10,7 +10,7 @@ use native.Mathlib.Omega.{arith}
 use lib.Dec.{eqb}
 use lib.Pow.{pow-pos}
 use borrow.Author.Tests.{le-ltb, ne-eqb}
-use Rattle.layout.specs.Entry.{bit, direct, directFields, directWidths, free, indirect, isDirect, isFree, isIndirect, recounted, relocked, Storable}
+use Rattle.layout.specs.Entry.{bit, direct, directFields, directWidths, freed, indirect, isDirect, isFree, isIndirect, recounted, relocked, Storable}
 use Rattle.bits.specs.Fields.{Fit}
 use Rattle.layout.specs.Form.{endPastMemory, faultsOf, holderWithoutLock, illFormed, lengthZero, lockedWithoutHolder, orSome}
 use Rattle.layout.specs.Tag.{tagOf}
@@ -39,7 +39,7 @@ pub direct-fit : (m : ℕ) (e : Entry) → Good m e → e .kind ≡ 1 → Fit di
 direct-fit m e g k = go (g .storable)
   where
     go : Storable e → Fit directWidths (directFields e)
-    go (isFree i) = absurd (omega (arith, ap (λ (x : Entry). x .kind) i))
+    go (isFree h i) = absurd (omega (arith, ap (λ (x : Entry). x .kind) i))
     go (isDirect i p z f) = f
     go (isIndirect i h u f) = absurd (omega arith)
 
@@ -53,15 +53,15 @@ pub fitting : (m : ℕ) (e : Entry) → Good m e → Fitting e
 fitting m e g = go (g .storable)
   where
     go : Storable e → Fitting e
-    go (isFree i) = rw i (record { tag = omega arith; count = omega arith; counted = λ h. absurd (h refl) })
+    go (isFree h i) = rw i (record { tag = omega arith; count = omega arith; counted = λ h. absurd (h refl) })
     go (isDirect i p z f) = record { tag = omega arith; count = omega arith; counted = λ h. omega arith }
     go (isIndirect i q u f) = record { tag = omega arith; count = omega arith; counted = λ h. omega arith }
 
 -- ---- what is written
 
-pub free-good : (m : ℕ) → Good m free
+pub free-good : (m : ℕ) {g : ℕ} → g < 65536 → Good m (freed g)
 unfolding illFormed
-free-good m = record { storable = isFree refl; formed = refl; lockable = λ k. absurd (omega arith); counted = λ k. absurd (omega arith) }
+free-good m h = record { storable = isFree h refl; formed = refl; lockable = λ k. absurd (omega arith); counted = λ k. absurd (omega arith) }
 
 tag-small : (k0 k1 : ℕ) (e : Entry) (n : ℕ) → tagOf k0 k1 e n < 65536
 unfolding tagOf
@@ -127,7 +127,7 @@ pub recount-good : (m : ℕ) {e : Entry} {k : ℕ} → Good m e → e .kind ≢ 
 recount-good m {e} {k} g n h c = record { storable = go (g .storable); formed = recount-formed m e k ∙ g .formed; lockable = g .lockable; counted = c }
   where
     go : Storable e → Storable (recounted e k)
-    go (isFree i) = absurd (n (ap (λ (x : Entry). x .kind) i))
+    go (isFree h i) = absurd (n (ap (λ (x : Entry). x .kind) i))
     go (isDirect i p z f) = isDirect i p z (omega arith)
     go (isIndirect i q u f) = isIndirect i q u (omega arith)
 
@@ -137,7 +137,7 @@ relock-good m {e} {locked} {h} g k l a b =
     record { storable = go (g .storable); formed = ill-as m (relocked e locked h) k ∙ formed (sym (ill-as m e k) ∙ g .formed); lockable = g .lockable; counted = g .counted }
   where
     go : Storable e → Storable (relocked e locked h)
-    go (isFree i) = absurd (omega (arith, ap (λ (x : Entry). x .kind) i))
+    go (isFree h i) = absurd (omega (arith, ap (λ (x : Entry). x .kind) i))
     go (isDirect i p z f) = isDirect i p z (omega (arith, bit-small locked))
     go (isIndirect i q u f) = absurd (omega arith)
 

@@ -1,7 +1,7 @@
 -- Demand 3 (00, with 01, "The lists of demand 3"): one claim about whole lists of requests.
 -- Assumes nothing.
 use mathlib.Core.Path.{_≡_}
-use mathlib.Core.Logic.{_≢_}
+use mathlib.Core.Logic.{_≢_, _⊎_}
 use mathlib.Core.Bool.{true}
 use mathlib.Core.List.{List, [], _∷_, _++_, List·Memᴰ}
 use Prim.Native.Nat.{ℕ, _+_, _≤_, _<_}
@@ -106,6 +106,16 @@ Closed σ k =
     (w : Way) (token task : ℕ) (shift : Shift) (buffer : List ℕ) → named token .number ≡ k .number → named token .tag ≡ k .tag
     → Accepted σ (record { request = access w token task shift; buffer = buffer }) → ⊥
 
+-- 02, paper 5: "the number held another tag between the token's giving and its issuing again". The number of k holds another tag than k's: its entry is there
+-- with it. And k returns by the requests qs, from σ on: at some time its number holds another tag, and the requests from then on issue k.
+pub record HoldsOther (t : List ℕ) (k : Name) : Type 0 where
+  pub there : at t (k .number) .kind ≢ 0
+  pub other : at t (k .number) .tag ≢ k .tag
+
+abbrev pub Returns : Machine → List Call → Name → Type 0
+Returns σ [] k = ⊥
+Returns σ (q ∷ qs) k = (HoldsOther (σ .table) k × List·Memᴰ k (issuedIn σ (q ∷ qs))) ⊎ Returns (step σ q) qs k
+
 -- ---- the claim
 
 -- What holds of two copies τ₁ and τ₂ of what the list h left over σ, and of a further list qs. s is the locked entry and e what it then was. As
@@ -120,14 +130,15 @@ pub record Secret (σ : Machine) (h : List Call) (s : ℕ) (e : Entry) (τ₁ τ
   -- "That revoke turns all of it to zeros,"
   pub wiped : (r : Call) → FirstRevoke τ₁ s qs r → take (e .length) (drop (e .base) (step (run τ₁ qs) r .memory)) ≡ replicate (e .length) 0
   -- "and from then on, whatever requests but a reset follow, also ones carrying t, no token given before the revoke for the segment or derived
-  -- under it opens an access, unless the same number and tag were issued again after that token was given." The token k was given by the
-  -- request q; zs is what follows the revoke r.
+  -- under it opens an access, unless the same number and tag were issued again after that token was given." 02, paper 5: "The exception for reissued tokens in the
+  -- lock's guarantee remains only where the number held another tag between the token's giving and its issuing again." The token k was given by the request q;
+  -- zs is what follows the revoke r.
   pub closed :
       (r : Call) → FirstRevoke τ₁ s qs r → (zs : List Call) → Unreset (step (run τ₁ qs) r) zs
       → (a : List Call) (q : Call) (b : List Call) → a ++ (q ∷ b) ≡ h ++ qs
       → (k : Name) → List·Memᴰ k (decision (run σ a) q .issued)
       → Under (step (run σ a) q .table) e k
-      → (List·Memᴰ k (issuedIn (step (run σ a) q) (b ++ (r ∷ zs))) → ⊥)
+      → (Returns (step (run σ a) q) (b ++ (r ∷ zs)) k → ⊥)
       → Closed (run (step (run τ₁ qs) r) zs) k
 
 -- "The first list begins with its one granted reset, over any table, memory, key and first nonce."

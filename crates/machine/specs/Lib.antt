@@ -5,6 +5,7 @@ pub mod FromReset
 pub mod Given
 pub mod Images
 pub mod Issuing
+pub mod LastToken
 pub mod Lent
 pub mod Line
 pub mod LoadImages

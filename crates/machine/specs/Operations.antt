@@ -17,7 +17,7 @@ use Rattle.machine.specs.Images.{piecesOf}
 use Rattle.machine.specs.Line.{isLocked, lineOf, linked, ownerOf, parentNumber}
 use Rattle.machine.specs.Parts.{at, State}
 use Rattle.machine.specs.Requests.{access, clone, create, derive, dump, executeOnly, fetching, load, lock, merge, reading, release, Request, reset, revoke, unlock, Way, writing}
-use Rattle.machine.specs.Writes.{alter, begin, Book, give, Name, nameOf, opened, otherNonce, reissue, renew, tokenFor, vacate, vacated, Write, written}
+use Rattle.machine.specs.Writes.{alter, begin, Book, give, Name, nameOf, opened, reissue, tokenFor, vacate, vacated, Write, written}
 
 -- ---- what a request hands back
 
@@ -146,7 +146,7 @@ abbrev pub mergedOf : Entry → Entry → ℕ → Entry
 mergedOf d e ν = direct (d .base) (d .length + e .length) (d .user) (bitAnd (d .permissions) (e .permissions)) (d .lockable) 0 ν
 
 abbrev pub grantMerge : List ℕ → ℕ → ℕ → (encoding : ℕ) → Grant
-grantMerge t n k c = issuing c (vacate k ∷ reissue n (mergedOf (at t n) (at t k)) ∷ [])
+grantMerge t n k c = issuing c (reissue n (mergedOf (at t n) (at t k)) ∷ vacate k ∷ [])
 
 -- derive: an indirect entry at the offset, with a parent token in encoding 1 and count 1; "the parent's count rises by one"
 abbrev pub childOf : ℕ → Entry → (offset length permissions : ℕ) → ℕ → Entry
@@ -187,11 +187,8 @@ grantLock t owner locked h = altering (alter owner (relocked (at t owner) locked
 abbrev pub fresh : Entry → ℕ → Entry
 fresh e ν = direct (e .base) (e .length) 0 7 true 0 ν
 
-abbrev pub revokeNonce : State → List ℕ → ℕ → ℕ
-revokeNonce s t n = otherNonce s t n (fresh (at t n))
-
 abbrev pub grantRevoke : List ℕ → ℕ → (encoding : ℕ) → Grant
-grantRevoke t n c = record { writes = renew n (fresh (at t n)) ∷ []; encoding = c; dropped = 0; length = 0; effect = store (at t n .base) (replicate (at t n .length) 0) }
+grantRevoke t n c = record { writes = reissue n (fresh (at t n)) ∷ []; encoding = c; dropped = 0; length = 0; effect = store (at t n .base) (replicate (at t n .length) 0) }
 
 -- load "writes the data at its offsets"; "where records overlap, the later one wins": pieces of data, one after the other, in a segment from its base on
 abbrev pub placed : (base : ℕ) → List Piece → List Store

@@ -83,11 +83,11 @@ fromReset = record {
       ∷ refuses (over (zeros 1) (access reading 0 0 noShift)) 2 0 4 8 3
       ∷ [];
   left =
-      0
+      0x262b00000000
       ∷ 0x200000000000000300000000000000000000000000000000003aef3c00000007
-      ∷ 0
-      ∷ 0
-      ∷ 0
+      ∷ 0xd70000000000
+      ∷ 0x730800000000
+      ∷ 0xc96600000000
       ∷ [];
 }
 
@@ -305,15 +305,15 @@ handedOn = record {
       ∷ 0x200000020000000200000000000000000000000000000000003ac9a400000068
       ∷ 0x20000004000000006000000000000000003fffffffffffffffc8cc0100000065
       ∷ 0x2000000460000001a00000000000000000000000000000000190c61c00000067
-      ∷ 0
+      ∷ 0xa400000000
       ∷ 0x200000000000000000002000000000000000000000000000003a00a50000000e
       ∷ 0x400000000805280000000000a00000008000200000000000003800a60000001e
-      ∷ 0
-      ∷ 0
+      ∷ 0xa700000000
+      ∷ 0xa800000000
       ∷ 0x400000040805180000000000600000011fffe00000000000000800a900000021
-      ∷ 0
+      ∷ 0xaa00000000
       ∷ 0x600000000000000000000000000000000000000000000000000000ab00000000
-      ∷ 0
+      ∷ 0xac00000000
       ∷ 0x200000070000000100001fffffffffffffc0000000000000003e00ad00000010
       ∷ 0x200000060000000100000000000000000000000000000000003a00ae00000011
       ∷ 0x4000000408054800000000012000000100002000000000000008240c00000064
@@ -393,8 +393,8 @@ wholes = record {
       ∷ grants (plain (create 0x4028000000000000 0 8 0 7 0)) (0x32f3000300000000 ∷ []) 0 3 11 2 nothing
       ∷ [];
   left =
-      0
-      ∷ 0
+      0xa000000000
+      ∷ 0xa100000000
       ∷ 0x200000010000000100000000000000000000000000000000003a70c800000009
       ∷ 0x200000000000000100000000000000000000000000000000003acbcc0000000a
       ∷ [];
@@ -583,12 +583,73 @@ inShifts = record {
   left = handed;
 }
 
+-- 02, paper 5: issues that pass over a nonce whose tag their entry last held: a derive, an execute-only and a part under a number that a drop freed, a merge, the rest of
+-- the root, which held tag 0; the derive and the rest also with one nonce too few. Each key was found by search.
+abbrev lastTags : Session
+lastTags = record {
+  memory = 64;
+  state = known 0 0 0 0 0;
+  table = 0 ∷ 0 ∷ [];
+  rows =
+      grants (plain (reset 12882 0 1)) [] 0 0 1 1 nothing
+      ∷ grants (plain (derive 0 0 8 7 0)) (0x1294800100000000 ∷ []) 0 1 2 0 nothing
+      ∷ grants (plain (release 0x1294800100000000)) [] 1 1 2 1 nothing
+      ∷ grants (plain (derive 0 0 8 7 0)) (0x12da000100000000 ∷ []) 0 1 4 0 nothing
+      ∷ grants (plain (reset 11440 0 4294967294)) [] 0 0 4294967294 1 nothing
+      ∷ grants (plain (derive 0 0 8 7 0)) (0x20c0400100000000 ∷ []) 0 1 4294967295 0 nothing
+      ∷ grants (plain (release 0x20c0400100000000)) [] 1 1 4294967295 1 nothing
+      ∷ refuses (plain (derive 0 0 8 7 0)) 11 0 1 4294967295 1
+      ∷ grants (plain (reset 23777 0 1)) [] 0 0 1 1 nothing
+      ∷ grants (plain (derive 0 0 8 7 0)) (0x25a800100000000 ∷ []) 0 1 2 0 nothing
+      ∷ grants (plain (release 0x25a800100000000)) [] 1 1 2 1 nothing
+      ∷ grants (plain (executeOnly 0 0)) (0x3dca800100000000 ∷ []) 0 1 4 0 nothing
+      ∷ grants (plain (reset 117146 0 1)) [] 0 0 1 1 nothing
+      ∷ grants (plain (derive 0 0 8 7 0)) (0x38d9800100000000 ∷ []) 0 1 2 0 nothing
+      ∷ grants (plain (release 0x38d9800100000000)) [] 1 1 2 1 nothing
+      ∷ grants (plain (create 0 0 16 0 7 0)) (0x28c3000100000000 ∷ 0x2fc000000000000 ∷ []) 0 1 5 0 nothing
+      ∷ grants (plain (reset 40932 0 1)) [] 0 0 1 1 nothing
+      ∷ grants (plain (create 0 0 16 0 7 0)) (0x5fe000100000000 ∷ 0x2bbc000000000000 ∷ []) 0 1 3 0 nothing
+      ∷ grants (plain (merge 0x5fe000100000000 0x2bbc000000000000 0 0)) (0x2c44c00100000000 ∷ []) 0 1 5 0 nothing
+      ∷ grants (plain (reset 134729 0 1)) [] 0 0 1 1 nothing
+      ∷ grants (plain (create 0 0 16 0 7 0)) (0x1db9800100000000 ∷ 0xabd400000000000 ∷ []) 0 1 4 0 nothing
+      ∷ grants (plain (reset 119323 0 4294967294)) [] 0 0 4294967294 1 nothing
+      ∷ refuses (plain (create 0 0 16 0 7 0)) 11 0 0 4294967294 1
+      ∷ [];
+  left =
+      0x200000000000000800000000000000000000000000000000003a000000000000
+      ∷ 0
+      ∷ [];
+}
+
+-- and a derive under the number that a merge freed
+abbrev lastTagsFreed : Session
+lastTagsFreed = record {
+  memory = 64;
+  state = known 0 0 0 0 0;
+  table = 0 ∷ 0 ∷ 0 ∷ [];
+  rows =
+      grants (plain (reset 129345 0 1)) [] 0 0 1 2 nothing
+      ∷ grants (plain (create 0 0 16 0 7 0)) (0x3ddd400100000000 ∷ 0x2385800000000000 ∷ []) 0 1 3 1 nothing
+      ∷ grants (plain (create 0x2385800000000000 0 16 0 7 0)) (0x199a000200000000 ∷ 0xbe400000000000 ∷ []) 0 2 5 0 nothing
+      ∷ grants (plain (merge 0x3ddd400100000000 0x199a000200000000 0 0)) (0x195ac00100000000 ∷ []) 0 2 6 1 nothing
+      ∷ grants (plain (derive 0x195ac00100000000 0 8 7 0)) (0x289000200000000 ∷ []) 0 2 8 0 nothing
+      ∷ [];
+  left =
+      0x200000040000000400000000000000000000000000000000003a02f900000004
+      ∷ 0x200000000000000400002000000000000000000000000000003a656b00000005
+      ∷ 0x400000000b2b58000000000020000001000020000000000000380a2400000007
+      ∷ [];
+}
+
 -- computed in this crate, and in `uses`
 abbrev pub sessions : List Session
 sessions = handedOver ∷ handedOn ∷ goingRound ∷ lastNonces ∷ wholes ∷ noneLeft ∷ imaged ∷ []
 
 abbrev pub sessionsAbove : List Session
 sessionsAbove = fromReset ∷ inShifts ∷ []
+
+abbrev pub sessionsKept : List Session
+sessionsKept = lastTags ∷ lastTagsFreed ∷ []
 
 -- bytes that are written, read and fetched, loaded and dumped, through the root of 8 bytes
 abbrev root8 : List ℕ

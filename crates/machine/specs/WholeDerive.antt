@@ -31,11 +31,12 @@ Bounds =
     (l + o ≤ lengthOf σ k → answer σ (deriveCall k o l p c b) .reply .refusal ≢ 8)
     × (lengthOf σ k < l + o → answer σ (deriveCall k o l p c b) .reply .refusal ≢ 0)
 
--- So who may pass on some part may pass on every part up to the end, the whole among them.
+-- So who may pass on some part may pass on every part up to the end, the whole among them; but for 11, since which nonces are to be passed over differs from part
+-- to part (02, paper 5).
 unfoldable pub Parts : Type 0
 Parts =
     (σ : Machine) (k o l p c : ℕ) (b : List ℕ) → Accepted σ (deriveCall k o l p c b)
-    → (o′ l′ : ℕ) → l′ ≢ 0 → l′ + o′ ≤ lengthOf σ k → Accepted σ (deriveCall k o′ l′ p c b)
+    → (o′ l′ : ℕ) → l′ ≢ 0 → l′ + o′ ≤ lengthOf σ k → answer σ (deriveCall k o′ l′ p c b) .reply .refusal ≢ 11 → Accepted σ (deriveCall k o′ l′ p c b)
 
 -- "The printed condition also forbids any derive of a one-byte segment": now a derive of all of a segment, of one byte too, with X alone is decided as an
 -- execute-only is.

@@ -4,11 +4,11 @@ use mathlib.Core.Bool.{cond}
 use mathlib.Core.List.{List, [], _∷_, _++_}
 use Prim.Native.Nat.{ℕ, _+_, _-_}
 use lib.Dec.{eqb, ltb}
-use Rattle.layout.specs.Entry.{free}
+use Rattle.layout.specs.Entry.{freed}
 use Rattle.tokens.specs.Token.{token}
 use Rattle.layout.specs.declared.entry.Entry.{Entry}
-use Rattle.machine.specs.Issuing.{issue, newNumber, passOver}
-use Rattle.machine.specs.Parts.{at, begun, cleared, mostFree, moved, put, root, spent, State, totalled}
+use Rattle.machine.specs.Issuing.{issue, lastHeld, newNumber, otherNonce}
+use Rattle.machine.specs.Parts.{begun, cleared, mostFree, moved, put, root, State, totalled}
 
 -- "'the same token' means these two": its number and tag
 pub record Name : Type 0 where
@@ -30,9 +30,7 @@ pub data Write : Type 0 where
   give : (entry : ℕ → Entry) → Write
   -- an entry is issued anew under its number
   reissue : (number : ℕ) (entry : ℕ → Entry) → Write
-  -- the same, and "nonces whose tag equals the old one are passed over"
-  renew : (number : ℕ) (entry : ℕ → Entry) → Write
-  -- the entry of this number is freed
+  -- the entry of this number is freed: "A freed entry now keeps its tag, all else zero" (02, paper 5)
   vacate : (number : ℕ) → Write
   -- "Later changes of count or lock leave the tag."
   alter : (number : ℕ) (entry : Entry) → Write
@@ -48,16 +46,17 @@ pub record Book : Type 0 where
 abbrev pub opened : State → List ℕ → Book
 opened s t = record { state = s; table = t; issued = []; tokens = [] }
 
--- "An issue uses the next nonce and raises it by one": e under number n and nonce ν, where `last` is then the last number given, `total` the free total, and
--- c the encoding of its token
-abbrev pub entered : (encoding : ℕ) → Book → (last total n ν : ℕ) → (ℕ → Entry) → Book
-entered c b last total n ν e =
+-- The one way to issue with a nonce. "An issue uses the next nonce and raises it by one", but for those that it passes over: e under number n, where `last` is then the last
+-- number given, `total` the free total, and c the encoding of its token.
+abbrev pub entered : (encoding : ℕ) → Book → (last total n : ℕ) → (ℕ → Entry) → Book
+entered c b last total n e =
+    let ν = otherNonce (b .state) (b .table) n e in
     let new = issue (b .state) n (e ν) in
     record { state = moved (b .state) last (ν + 1) total; table = put (b .table) n new; issued = b .issued ++ (nameOf n new ∷ []); tokens = b .tokens ++ (tokenFor c (nameOf n new) ∷ []) }
 
 -- the table with entry n freed
 abbrev pub vacated : List ℕ → ℕ → List ℕ
-vacated t n = put t n free
+vacated t n = put t n (freed (lastHeld t n))
 
 -- 02, paper 3: the total is "corrected by every issue of a new number and every freeing", and "a wrong handed-over total stops at 0 and at that top". One
 -- number less is free, where 0 - 1 is 0; and one more, number n, which does not count if it is 0.
@@ -67,17 +66,12 @@ oneLess k = k - 1
 abbrev pub oneMore : (top n total : ℕ) → ℕ
 oneMore top n k = cond (eqb n 0) k (cond (ltb k top) (k + 1) k)
 
--- the first nonce that gives the entry of number n another tag than it has
-abbrev pub otherNonce : State → List ℕ → ℕ → (ℕ → Entry) → ℕ
-otherNonce s t n e = passOver (spent - s .next) s n e (at t n .tag) (s .next)
-
 -- Reset's root is issued, and no answer carries its token: "A token is issued, and so given, when reset writes the root (number 0, tag 0)".
 abbrev pub write : (encoding : ℕ) → Book → Write → Book
 write c b (begin m k0 k1 ν) =
     record { state = begun (b .table) k0 k1 ν; table = put (cleared (b .table)) 0 (root m); issued = b .issued ++ (record { number = 0; tag = 0 } ∷ []); tokens = b .tokens }
-write c b (give e) = let new = newNumber (b .state) (b .table) in entered c b new (oneLess (b .state .total)) new (b .state .next) e
-write c b (reissue n e) = entered c b (b .state .last) (b .state .total) n (b .state .next) e
-write c b (renew n e) = entered c b (b .state .last) (b .state .total) n (otherNonce (b .state) (b .table) n e) e
+write c b (give e) = let new = newNumber (b .state) (b .table) in entered c b new (oneLess (b .state .total)) new e
+write c b (reissue n e) = entered c b (b .state .last) (b .state .total) n e
 write c b (vacate n) = record { state = totalled (b .state) (oneMore (mostFree (b .table)) n (b .state .total)); table = vacated (b .table) n; issued = b .issued; tokens = b .tokens }
 write c b (alter n e) = record { state = b .state; table = put (b .table) n e; issued = b .issued; tokens = b .tokens }
 

@@ -5,6 +5,7 @@ use checks::reach::opens;
 use checks::reach::reach_near;
 use checks::refusal::Refusal;
 use checks::settings::settings;
+use entering::nonces::find_anew;
 use issuing::writes::reissue;
 use layout::entry::Entry;
 use layout::entry::Words;
@@ -22,13 +23,13 @@ ghost use mathlib.Core.List.{List, []};
 ghost use Prim.Native.Nat.{ℕ, _+_, _<_, _^_};
 ghost use lib.ListN.{length};
 ghost use Rattle.layout.specs.Entry.{entryOf, wordsNumber};
-ghost use Rattle.machine.specs.Operations.{mergedOf, numberOf};
+ghost use Rattle.machine.specs.Operations.{grant, mergedOf, numberOf};
 ghost use Rattle.machine.specs.Parts.{at, State};
 ghost use Rattle.machine.specs.Requests as request;
 ghost use Rattle.machine.specs.Steps.{pass};
 ghost use Rattle.table.specs.States.{stateAs};
 ghost use Rattle.tokens.specs.Token as tokens;
-ghost use Rattle.rulings.specs.Rulings.{checkedAs, granting, handed, restOn, rulingOn, tokensOn, verdictOn};
+ghost use Rattle.rulings.specs.Rulings.{checkedAs, ended, frontOn, handed, innerOn, ruled, rulingOn, tokensOn};
 ghost use Rattle.merges.specs.Neighbours.{Pairs};
 
 // What the checks of a merge come to: where it stops, or the numbers of both entries.
@@ -65,10 +66,10 @@ fn reach_both(
     }
 }
 
-// Places 6 to 11, for d of number n and e of number k, whatever tokens name them: e starts where d
-// ends, and one nonce is left.
-fn neighbours(s: StateWords, d: Entry, e: Entry, n: usize, k: usize) -> Pair
-    ensures { λ r. ⌜ ((m : ℕ) (t : List ℕ) (i j u c : ℕ) → n ≡ numberOf i → k ≡ numberOf j → d ≡ at t n → e ≡ at t k → Pairs i j r (restOn m (stateAs s) t (request.merge i j u c) [])) ⌝ }
+// Places 6 to 10, for d of number n and e of number k, whatever tokens name them: e starts where d
+// ends.
+fn neighbours(d: Entry, e: Entry, n: usize, k: usize) -> Pair
+    ensures { λ r. ⌜ ((m : ℕ) (s : State) (t : List ℕ) (i j u c : ℕ) → n ≡ numberOf i → k ≡ numberOf j → d ≡ at t n → e ≡ at t k → Pairs i j r (innerOn m s t (request.merge i j u c) [])) ⌝ }
 {
     if !((d.kind == 1) & (e.kind == 1)) {
         return Pair::Stop(Refusal::Kind);
@@ -77,13 +78,10 @@ fn neighbours(s: StateWords, d: Entry, e: Entry, n: usize, k: usize) -> Pair
     if (e.base as u64) != end {
         return Pair::Stop(Refusal::Bounds);
     }
-    if !(!d.locked & !e.locked & (d.count == 0) & (e.count == 0)) {
-        return Pair::Stop(Refusal::Standing);
-    }
-    if s.next < 4294967296 {
+    if !d.locked & !e.locked & (d.count == 0) & (e.count == 0) {
         Pair::Numbers(n, k)
     } else {
-        Pair::Stop(Refusal::Nonces)
+        Pair::Stop(Refusal::Standing)
     }
 }
 
@@ -107,7 +105,7 @@ fn check_merge(
     task: u64,
     encoding: u64,
 ) -> Pair
-    ensures { λ r. ⌜ Pairs first second r (verdictOn memory (stateAs s) (now (table .entry)) (request.merge first second task encoding) []) ⌝ }
+    ensures { λ r. ⌜ Pairs first second r (frontOn memory (stateAs s) (now (table .entry)) (request.merge first second task encoding) []) ⌝ }
 {
     let a = read(first);
     let b = read(second);
@@ -123,7 +121,7 @@ fn check_merge(
             Checked::Pass => {
                 let n = a.number as usize;
                 let k = b.number as usize;
-                neighbours(s, entry_at(table, n), entry_at(table, k), n, k)
+                neighbours(entry_at(table, n), entry_at(table, k), n, k)
             }
         }
     } else {
@@ -131,7 +129,8 @@ fn check_merge(
     }
 }
 
-// The second, of number k, is freed, and the first, of number n, issued anew over both.
+// The first, of number n, is issued anew over both, if a nonce is left for it, and the second, of
+// number k, is freed.
 fn grant_merge(
     mut s: StateWords,
     table: &mut [u8],
@@ -143,14 +142,21 @@ fn grant_merge(
     task: u64,
     encoding: u64,
 ) -> Outcome
-    requires { ⌜ verdictOn memory (stateAs s) (now table) (request.merge first second task encoding) [] ≡ pass ⌝ }
+    requires { ⌜ frontOn memory (stateAs s) (now table) (request.merge first second task encoding) [] ≡ pass ⌝ }
     requires { ⌜ (n ≡ numberOf first) × (k ≡ numberOf second) ⌝ }
-    ensures { λ r. ⌜ handed r (now (table .exit)) ≡ granting memory (stateAs s) (now (table .entry)) (request.merge first second task encoding) [] ⌝ }
+    ensures { λ r. ⌜ handed r (now (table .exit)) ≡ ruled (ended (stateAs s) (now (table .entry)) (grant memory (now (table .entry)) (request.merge first second task encoding) [])) ⌝ }
 {
-    let whole = joined(entry_at(table, n), entry_at(table, k));
-    s.total = vacate(s.total, table, k);
-    let new = reissue(s, table, n, whole, encoding);
-    giving(new.state, new.token)
+    let d = entry_at(table, n);
+    let whole = joined(d, entry_at(table, k));
+    let found = find_anew(s, n, whole, d.tag);
+    if found.nonce < 4294967296 {
+        let new = reissue(s, table, n, whole, found, encoding);
+        let mut words = new.state;
+        words.total = vacate(words.total, table, k);
+        giving(words, new.token)
+    } else {
+        refused(s, Refusal::Nonces)
+    }
 }
 
 // Two neighbours in order become one segment under the first's number.

@@ -13,16 +13,16 @@ use Rattle.tokens.specs.declared.token.Named.{Named}
 use Rattle.checks.specs.Holds.{requestHolds, settingsHold}
 use Rattle.checks.specs.Reached.{liveVerdict}
 use Rattle.machine.specs.Issuing.{newNumber}
-use Rattle.machine.specs.Operations.{numberOf}
+use Rattle.machine.specs.Operations.{grantDerive, namedEntry, numberOf}
 use Rattle.machine.specs.Parts.{at, State}
 use Rattle.machine.specs.Requests.{executeOnly}
 use Rattle.machine.specs.Steps.{pass, stop, Verdict}
-use Rattle.machine.specs.Stops.{atRight, checks, encodingFits, noOffset}
+use Rattle.machine.specs.Stops.{atRight, encodingFits, noOffset}
 use Rattle.machine.proofs.Decided.{Passed}
 use Rattle.rulings.specs.Allotments.{Limits}
-use Rattle.rulings.specs.Rulings.{granting, restOn, Ruling, tokensOn, verdictOn}
-use Rattle.rulings.proofs.AllotLaws.{pass-limits, request-limits, segment-inside}
-use Rattle.rulings.proofs.RulingLaws.{passed-on, token-passes}
+use Rattle.rulings.specs.Rulings.{ended, frontOn, innerOn, ruled, Ruling, tokensOn}
+use Rattle.rulings.proofs.AllotLaws.{front-limits, request-limits, segment-inside}
+use Rattle.rulings.proofs.RulingLaws.{front, front-inner, front-passed}
 use Rattle.references.specs.Children.{Bearing, bearingOn, childVerdict}
 use Rattle.references.proofs.ChildLaws.{child-bears}
 
@@ -45,25 +45,25 @@ module _ (m : ℕ) (s : State) (t : List ℕ) (k c : ℕ) where
   -- the token is read as n, its entry as e, and b tells whether X is held
   module _ (n : Named) (e : Entry) (b : Bool) (is : n ≡ named k) (there : e ≡ at t (n .number)) (right : b ≡ within X (e .permissions))
       (ok : requestHolds m s t (executeOnly k c) [] ≡ true) (l : liveVerdict m t k ≡ pass) where
-    whole : verdictOn m s t (executeOnly k c) [] ≡ cond b (childVerdict s t e) (stop atRight)
-    unfolding restOn childVerdict
-    whole = token-passes m s t (executeOnly k c) [] ok (execute-token l) ∙ rw (right, there, is)
+    whole : frontOn m s t (executeOnly k c) [] ≡ cond b (childVerdict s t e) (stop atRight)
+    unfolding innerOn childVerdict
+    whole = front-inner m s t (executeOnly k c) [] ok (execute-token l) ∙ rw (right, there, is)
 
-    pub execute-right : b ≡ false → verdictOn m s t (executeOnly k c) [] ≡ stop atRight
+    pub execute-right : b ≡ false → frontOn m s t (executeOnly k c) [] ≡ stop atRight
     execute-right h = whole ∙ rw h
 
-    pub execute-child : b ≡ true → verdictOn m s t (executeOnly k c) [] ≡ childVerdict s t e
+    pub execute-child : b ≡ true → frontOn m s t (executeOnly k c) [] ≡ childVerdict s t e
     execute-child h = whole ∙ rw h
 
   -- what a pass says
-  pub execute-bears : verdictOn m s t (executeOnly k c) [] ≡ pass → (new : ℕ) → new ≡ newNumber s t → Bearing s t (numberOf k) new 0 X c
+  pub execute-bears : frontOn m s t (executeOnly k c) [] ≡ pass → (new : ℕ) → new ≡ newNumber s t → Bearing s t (numberOf k) new 0 X c
   execute-bears h new found =
-      let all : Passed (checks m s t (executeOnly k c) []) = passed-on m s t (executeOnly k c) [] h in
+      let all : Passed (front m s t (executeOnly k c) []) = front-passed m s t (executeOnly k c) [] h in
       let i = segment-inside m t (numberOf k) (search) (search) (search) in
-      child-bears s t k 0 X c new (pass-limits m s t (executeOnly k c) [] own refl h) (search) (search) (search) (search) (search) (omega arith) (omega arith) found
+      child-bears s t k 0 X c new (front-limits m s t (executeOnly k c) [] own refl h) (search) (search) (search) (search) (omega arith) (omega arith) found
 
 -- the child is what is granted
-pub execute-grants : (m : ℕ) (s : State) (t : List ℕ) (k c : ℕ) (n : Named) (e : Entry) (x : Ruling) → n ≡ named k → e ≡ at t (n .number) → x ≡ bearingOn s t (n .number) 0 (e .length) X c
-    → x ≡ granting m s t (executeOnly k c) []
-unfolding granting bearingOn
-execute-grants m s t k c n e x is there h = rw is at (rw there at h)
+pub execute-grants : (s : State) (t : List ℕ) (k c : ℕ) (n : Named) (e : Entry) (x : Ruling) → n ≡ named k → e ≡ at t (n .number) → x ≡ bearingOn s t (n .number) 0 (e .length) X c
+    → x ≡ ruled (ended s t (grantDerive t (numberOf k) 0 (namedEntry t k .length) X c))
+unfolding bearingOn
+execute-grants s t k c n e x is there h = rw is at (rw there at h)

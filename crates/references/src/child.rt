@@ -1,6 +1,7 @@
 // Children: what derive and execute-only share.
 use altering::writes::recount;
 use checks::refusal::Refusal;
+use entering::nonces::find;
 use issuing::writes::give;
 use layout::entry::Entry;
 use layout::entry::base_of;
@@ -11,6 +12,7 @@ use rulings::allot::Allotted;
 use rulings::allot::allot;
 use rulings::reply::Outcome;
 use rulings::reply::giving;
+use rulings::reply::refused;
 use table::entries::words_at;
 use table::state::StateWords;
 use tokens::token::token_of;
@@ -20,20 +22,20 @@ ghost use Rattle.rulings.specs.Allotments.{Allots, Limits};
 ghost use Rattle.rulings.specs.Rulings.{handed};
 ghost use Rattle.references.specs.Children.{Bearing, bearingOn, childVerdict};
 
-// Places 9 to 11, for the parent e.
+// Places 9 and 10, for the parent e.
 pub(crate) fn allot_child(s: StateWords, table: &[u8], e: Entry) -> Allotted
     requires { ⌜ Limits (stateAs s) (now table) ⌝ }
     ensures { λ r. ⌜ Allots (stateAs s) (now (table .entry)) r (childVerdict (stateAs s) (now (table .entry)) e) ⌝ }
 {
     if e.count < 65535 {
-        allot(s, table, 1)
+        allot(s, table)
     } else {
         Allotted::Stop(Refusal::Standing)
     }
 }
 
-// A child of entry n under the new number, at an offset in the parent's segment. The parent's
-// count rises by one.
+// A child of entry n under the new number, at an offset in the parent's segment, if a nonce is left
+// for it. The parent's count rises by one.
 pub(crate) fn grant_child(
     mut s: StateWords,
     table: &mut [u8],
@@ -50,8 +52,12 @@ pub(crate) fn grant_child(
     let w = words_at(table, n);
     let parent = token_of(1, n, tag_of(w));
     let child = issued_indirect(base_of(w) + offset, length, parent, permissions);
-    let given = give(s, table, new, child, encoding);
-    recount(table, n, w, count_of(w) + 1);
-    let state = given.state;
-    giving(state, given.token)
+    let found = find(s, table, new, child);
+    if found.nonce < 4294967296 {
+        let given = give(s, table, new, child, found, encoding);
+        recount(table, n, w, count_of(w) + 1);
+        giving(given.state, given.token)
+    } else {
+        refused(s, Refusal::Nonces)
+    }
 }

@@ -18,14 +18,14 @@ ghost use mathlib.Core.Path.{_≡_};
 ghost use mathlib.Core.List.{[]};
 ghost use Prim.Native.Nat.{ℕ, _+_, _*_, _≤_};
 ghost use lib.ListN as list;
-ghost use Rattle.machine.specs.Operations.{numberOf};
+ghost use Rattle.machine.specs.Operations.{grant, numberOf};
 ghost use Rattle.machine.specs.Requests as request;
 ghost use Rattle.rulings.specs.Allotments.{allotted, Allots, Limits};
 ghost use Rattle.table.specs.States.{stateAs};
 ghost use Rattle.tokens.specs.Token as tokens;
-ghost use Rattle.rulings.specs.Rulings.{granting, handed, restOn, rulingOn, verdictOn};
+ghost use Rattle.rulings.specs.Rulings.{ended, frontOn, handed, innerOn, ruled, rulingOn};
 
-// Places 7 to 11, which look at nothing else that the request carries. The token is read as named.
+// Places 7 to 10, which look at nothing else that the request carries. The token is read as named.
 fn check_part(
     s: StateWords,
     table: &[u8],
@@ -38,7 +38,7 @@ fn check_part(
     requires { ⌜ named ≡ tokens.named token ⌝ }
     requires { ⌜ Limits (stateAs s) (now table) × (permissions ≤ 7) ⌝ }
     requires { ⌜ 32 * numberOf token + 32 ≤ list.length (now table) ⌝ }
-    ensures { λ r. ⌜ ((m c : ℕ) → Allots (stateAs s) (now (table .entry)) r (restOn m (stateAs s) (now (table .entry)) (request.derive token offset length permissions c) [])) ⌝ }
+    ensures { λ r. ⌜ ((m c : ℕ) → Allots (stateAs s) (now (table .entry)) r (innerOn m (stateAs s) (now (table .entry)) (request.derive token offset length permissions c) [])) ⌝ }
 {
     let e = entry_at(table, named.number as usize);
     if !within(permissions as u8, e.permissions) {
@@ -62,7 +62,7 @@ fn check_derive(
     encoding: u64,
 ) -> Allotted
     requires { ⌜ named ≡ tokens.named token ⌝ }
-    ensures { λ r. ⌜ Allots (stateAs s) (now (table .entry)) r (verdictOn memory (stateAs s) (now (table .entry)) (request.derive token offset length permissions encoding) []) ⌝ }
+    ensures { λ r. ⌜ Allots (stateAs s) (now (table .entry)) r (frontOn memory (stateAs s) (now (table .entry)) (request.derive token offset length permissions encoding) []) ⌝ }
 {
     if settings(memory, s, table)
         & (encoding <= 3)
@@ -94,7 +94,7 @@ fn grant_derive(
 ) -> Outcome
     requires { ⌜ named ≡ tokens.named token ⌝ }
     requires { ⌜ allotted memory (stateAs s) (now table) (request.derive token offset length permissions encoding) new ⌝ }
-    ensures { λ r. ⌜ handed r (now (table .exit)) ≡ granting memory (stateAs s) (now (table .entry)) (request.derive token offset length permissions encoding) [] ⌝ }
+    ensures { λ r. ⌜ handed r (now (table .exit)) ≡ ruled (ended (stateAs s) (now (table .entry)) (grant memory (now (table .entry)) (request.derive token offset length permissions encoding) [])) ⌝ }
 {
     grant_child(
         s,

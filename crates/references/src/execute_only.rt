@@ -15,10 +15,11 @@ use tokens::token::read;
 ghost use mathlib.Core.Path.{_≡_};
 ghost use mathlib.Core.List.{[]};
 ghost use lib.ListN.{length};
+ghost use Rattle.machine.specs.Operations.{grant};
 ghost use Rattle.machine.specs.Requests as request;
 ghost use Rattle.rulings.specs.Allotments.{allotted, Allots};
 ghost use Rattle.table.specs.States.{stateAs};
-ghost use Rattle.rulings.specs.Rulings.{granting, handed, rulingOn, verdictOn};
+ghost use Rattle.rulings.specs.Rulings.{ended, frontOn, handed, ruled, rulingOn};
 
 fn check_execute_only(
     s: StateWords,
@@ -27,7 +28,7 @@ fn check_execute_only(
     token: u64,
     encoding: u64,
 ) -> Allotted
-    ensures { λ r. ⌜ Allots (stateAs s) (now (table .entry)) r (verdictOn memory (stateAs s) (now (table .entry)) (request.executeOnly token encoding) []) ⌝ }
+    ensures { λ r. ⌜ Allots (stateAs s) (now (table .entry)) r (frontOn memory (stateAs s) (now (table .entry)) (request.executeOnly token encoding) []) ⌝ }
 {
     let named = read(token);
     if settings(memory, s, table) & (encoding <= 3) & (named.offset == 0) {
@@ -57,7 +58,7 @@ fn grant_execute_only(
     encoding: u64,
 ) -> Outcome
     requires { ⌜ allotted memory (stateAs s) (now table) (request.executeOnly token encoding) new ⌝ }
-    ensures { λ r. ⌜ handed r (now (table .exit)) ≡ granting memory (stateAs s) (now (table .entry)) (request.executeOnly token encoding) [] ⌝ }
+    ensures { λ r. ⌜ handed r (now (table .exit)) ≡ ruled (ended (stateAs s) (now (table .entry)) (grant memory (now (table .entry)) (request.executeOnly token encoding) [])) ⌝ }
 {
     let named = read(token);
     let n = named.number as usize;

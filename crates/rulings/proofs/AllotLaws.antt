@@ -1,4 +1,4 @@
--- A new number and nonces: the ways out of the search for them, and what sizes and settings say.
+-- A new number: the ways out of the search for it, and what sizes and settings say.
 -- Assumes nothing.
 use mathlib.Core.Path.{_≡_}
 use mathlib.Core.Bool.{Bool, true, not}
@@ -7,34 +7,30 @@ use Prim.Native.Nat.{ℕ, _+_, _*_, _/_, _%_, _≤_, _<_}
 use native.Mathlib.Omega.{arith}
 use lib.Dec.{eqb, leb}
 use lib.ListN.{length}
-use borrow.Author.Tests.{eqb-false, eqb-true, leb-true, le-leb, lt-leb, ltb-true, ne-eqb, not-true}
+use borrow.Author.Tests.{eqb-false, eqb-true, leb-true, ltb-true, ne-eqb, not-true}
 use Rattle.checks.specs.Holds.{requestHolds}
 use Rattle.checks.proofs.ReachLaws.{reached-inside}
 use Rattle.machine.specs.Issuing.{newNumber}
 use Rattle.machine.specs.Line.{isIll, lineOf}
-use Rattle.machine.specs.Parts.{at, mostMemory, size, spent, State}
+use Rattle.machine.specs.Parts.{at, mostMemory, size, State}
 use Rattle.machine.specs.Requests.{Request}
 use Rattle.machine.specs.Steps.{pass, stop}
-use Rattle.machine.specs.Stops.{atNonces, atNumbers, places, settings, sizes}
+use Rattle.machine.specs.Stops.{atNumbers, places, settings, sizes}
 use Rattle.machine.proofs.Decided.{AllTrue, true-join, true-split}
 use Rattle.machine.proofs.Fuel.{number-first}
 use Rattle.rulings.specs.Allotments.{allotVerdict, Limits}
-use Rattle.rulings.specs.Rulings.{verdictOn}
-use Rattle.rulings.proofs.RulingLaws.{pass-true, request-true}
+use Rattle.rulings.specs.Rulings.{frontOn}
+use Rattle.rulings.proofs.RulingLaws.{front-true, request-true}
 
 -- the ways out, where n is the number found
-module _ (s : State) (t : List ℕ) (k n : ℕ) (is : n ≡ newNumber s t) where
-  pub allot-none : n ≡ 0 → allotVerdict s t k ≡ stop atNumbers
+module _ (s : State) (t : List ℕ) (n : ℕ) (is : n ≡ newNumber s t) where
+  pub allot-none : n ≡ 0 → allotVerdict s t ≡ stop atNumbers
   unfolding allotVerdict
   allot-none h = rw (← is, h)
 
-  pub allot-spent : (n ≡ 0 → ⊥) → spent < s .next + k → allotVerdict s t k ≡ stop atNonces
+  pub allot-pass : (n ≡ 0 → ⊥) → allotVerdict s t ≡ pass
   unfolding allotVerdict
-  allot-spent h g = rw (← is, ne-eqb n 0 h, lt-leb (s .next + k) spent g)
-
-  pub allot-pass : (n ≡ 0 → ⊥) → s .next + k ≤ spent → allotVerdict s t k ≡ pass
-  unfolding allotVerdict
-  allot-pass h g = rw (← is, ne-eqb n 0 h, le-leb (s .next + k) spent g)
+  allot-pass h = rw (← is, ne-eqb n 0 h)
 
 -- where sizes and settings hold
 module _ (m : ℕ) (s : State) (t : List ℕ) (h : AllTrue (sizes m t ++ settings s t)) where
@@ -57,8 +53,8 @@ module _ (m : ℕ) (s : State) (t : List ℕ) (q : Request) (b : List ℕ) (own 
   pub request-limits : requestHolds m s t q b ≡ true → Limits s t
   request-limits h = set-limits (request-true m s t q b h)
 
-  pub pass-limits : verdictOn m s t q b ≡ pass → Limits s t
-  pass-limits h = set-limits (pass-true m s t q b h)
+  pub front-limits : frontOn m s t q b ≡ pass → Limits s t
+  front-limits h = set-limits (front-true m s t q b h)
 
 -- an entry that is there and not ill-formed lies in memory
 pub segment-inside : (m : ℕ) (t : List ℕ) (n : ℕ) → leb m mostMemory ≡ true → not (eqb (at t n .kind) 0) ≡ true → not (isIll (lineOf m t n)) ≡ true → at t n .base + at t n .length ≤ mostMemory

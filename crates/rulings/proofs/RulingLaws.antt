@@ -3,24 +3,34 @@
 use mathlib.Core.Path.{_≡_, refl, sym, _∙_, ap}
 use mathlib.Core.Bool.{Bool, true, false}
 use mathlib.Core.List.{List, [], _∷_, _++_, append-assoc}
-use Prim.Native.Nat.{ℕ, _≤_}
-use borrow.Author.Tests.{le-leb}
+use Prim.Native.Nat.{ℕ, _≤_, _<_}
+use borrow.Author.Tests.{le-leb, lt-leb}
 use Rattle.checks.specs.Holds.{requestHolds}
 use Rattle.checks.specs.Refusals.{stopAs}
 use Rattle.checks.specs.declared.refusal.Refusal as code
+use Rattle.checks.specs.declared.refusal.Refusal.the-variants.{Nonces}
 use Rattle.checks.proofs.VerdictLaws.{all-hold, all-pass, all-stop, all-true, first-passes, first-stops, parts-pass}
-use Rattle.machine.specs.Operations.{book, Effect, grant, nothing}
+use Rattle.machine.specs.Operations.{book, carried, Decision, Effect, Grant, grant, nothing}
 use Rattle.machine.specs.Parts.{spent, State}
 use Rattle.machine.specs.Requests.{Request}
-use Rattle.machine.specs.Steps.{decide, pass, settle, stop, Verdict, verdict}
-use Rattle.machine.specs.Stops.{atRequest, Check, checks, needAll, noncesLeft, Places, places, Refusal, sizes}
+use Rattle.machine.specs.Steps.{decide, pass, refused, settle, stop, Verdict, verdict}
+use Rattle.machine.specs.Stops.{atNonces, atRequest, Check, checks, needAll, noncesLeft, Places, places, Refusal, sizes}
 use Rattle.machine.proofs.Decided.{AllTrue, andThen, needed, Passed, passed, passed-split, verdict-append}
 use Rattle.table.specs.States.{stateAs}
 use Rattle.table.specs.declared.state.StateWords.{StateWords}
-use Rattle.rulings.specs.Rulings.{checkedAs, effectOn, firstOn, grantedEffect, granting, handed, refusing, restOn, ruled, Ruling, rulingOn, tokensOn, verdictOn}
+use Rattle.rulings.specs.Rulings.{checkedAs, effectOn, ended, firstOn, frontOn, grantedEffect, granting, handed, innerOn, refusing, restOn, ruled, Ruling, rulingOn, tokensOn, verdictOn}
 use Rattle.rulings.specs.declared.reply.Checked.{Checked}
 use Rattle.rulings.specs.declared.reply.Checked.the-variants.{Pass, Stop}
 use Rattle.rulings.specs.declared.reply.Outcome.{Outcome}
+
+-- ---- what the code's checks come to
+
+module _ {v : Verdict} (r : Checked) (is : checkedAs r ≡ v) where
+  pub told-stop : (why : code.Refusal) → r ≡ Stop why → v ≡ stopAs why
+  told-stop why h = sym is ∙ ap checkedAs h
+
+  pub told-pass : r ≡ Pass → v ≡ pass
+  told-pass h = sym is ∙ ap checkedAs h
 
 -- ---- the verdict on a request, part by part
 
@@ -87,6 +97,52 @@ module _ (m : ℕ) (s : State) (t : List ℕ) (q : Request) (b : List ℕ) where
       same pass = refl
       same (stop r) = refl
 
+  -- ---- all places but 11
+
+  abbrev pub front : List Check
+  front = needAll atRequest facts ++ (tokenChecks ++ p .rest)
+
+  -- place 1 stops it
+  pub front-request : requestHolds m s t q b ≡ false → frontOn m s t q b ≡ stop atRequest
+  unfolding frontOn requestHolds
+  front-request h = first-stops (needAll atRequest facts) (tokenChecks ++ p .rest) (all-stop atRequest facts h)
+
+  module _ (ok : requestHolds m s t q b ≡ true) where
+    front-after : frontOn m s t q b ≡ verdict (tokenChecks ++ p .rest)
+    unfolding frontOn requestHolds
+    front-after = first-passes (needAll atRequest facts) (tokenChecks ++ p .rest) (all-pass atRequest facts ok)
+
+    -- a token stops it, or the rest decides
+    pub front-token : {r : Refusal} → tokensOn m s t q b ≡ stop r → frontOn m s t q b ≡ stop r
+    unfolding tokensOn
+    front-token h = front-after ∙ first-stops tokenChecks (p .rest) h
+
+    pub front-inner : tokensOn m s t q b ≡ pass → frontOn m s t q b ≡ innerOn m s t q b
+    unfolding tokensOn innerOn
+    front-inner h = front-after ∙ first-passes tokenChecks (p .rest) h
+
+  -- one that passes has every check hold
+  pub front-passed : frontOn m s t q b ≡ pass → Passed front
+  unfolding frontOn
+  front-passed h = passed front h
+
+  pub front-true : frontOn m s t q b ≡ pass → AllTrue (sizes m t ++ p .request)
+  front-true h = needed atRequest facts (passed-split (needAll atRequest facts) (tokenChecks ++ p .rest) (front-passed h) .0)
+
+  pub front-tokens : frontOn m s t q b ≡ pass → tokensOn m s t q b ≡ pass
+  unfolding frontOn tokensOn
+  front-tokens h = parts-pass tokenChecks (p .rest) (parts-pass (needAll atRequest facts) (tokenChecks ++ p .rest) h .1) .0
+
+  -- and then 11
+  front-then : verdictOn m s t q b ≡ andThen (frontOn m s t q b) (verdict (noncesLeft s t (grant m t q b) ∷ []))
+  unfolding verdictOn frontOn
+  front-then =
+      ap verdict (ap (λ (cs : List Check). needAll atRequest facts ++ cs) (sym (append-assoc tokenChecks (p .rest) _)) ∙ sym (append-assoc (needAll atRequest facts) (tokenChecks ++ p .rest) _))
+      ∙ verdict-append front (noncesLeft s t (grant m t q b) ∷ [])
+
+  pub front-stop : {r : Refusal} → frontOn m s t q b ≡ stop r → verdictOn m s t q b ≡ stop r
+  front-stop h = front-then ∙ rw h
+
   -- one that passes has every check hold
   pub passed-on : verdictOn m s t q b ≡ pass → Passed (checks m s t q b)
   unfolding verdictOn
@@ -103,10 +159,10 @@ module _ (m : ℕ) (s : State) (t : List ℕ) (q : Request) (b : List ℕ) where
 
   module _ (r : Checked) (is : checkedAs r ≡ verdictOn m s t q b) where
     pub verdict-stop : (why : code.Refusal) → r ≡ Stop why → verdictOn m s t q b ≡ stopAs why
-    verdict-stop why h = sym is ∙ ap checkedAs h
+    verdict-stop why h = told-stop r is why h
 
     pub verdict-pass : r ≡ Pass → verdictOn m s t q b ≡ pass
-    verdict-pass h = sym is ∙ ap checkedAs h
+    verdict-pass h = told-pass r is h
 
   -- ---- the decision
 
@@ -117,6 +173,22 @@ module _ (m : ℕ) (s : State) (t : List ℕ) (q : Request) (b : List ℕ) where
   pub decided-pass : (x : Ruling) → x ≡ granting m s t q b → verdictOn m s t q b ≡ pass → x ≡ rulingOn m s t q b
   unfolding granting
   decided-pass x e h = e ∙ sym (by-verdict pass h)
+
+  -- one that passes all places but 11
+  module _ (h : frontOn m s t q b ≡ pass) where
+    by-nonces : decide m s t q b ≡ ended s t (grant m t q b)
+    unfolding decide ended verdictOn
+    by-nonces =
+        let last : verdictOn m s t q b ≡ verdict (noncesLeft s t (grant m t q b) ∷ []) = front-then ∙ rw h in
+        ap (λ (v : Verdict). settle v s t (grant m t q b)) last
+
+    pub front-decided : (x : Ruling) → x ≡ ruled (ended s t (grant m t q b)) → x ≡ rulingOn m s t q b
+    unfolding rulingOn
+    front-decided x e = e ∙ ap ruled (sym by-nonces)
+
+    pub front-effect : effectOn m s t q b ≡ ended s t (grant m t q b) .effect
+    unfolding effectOn
+    front-effect = ap (λ (d : Decision). d .effect) by-nonces
 
   -- the effect of a request that is refused, and of one that is granted
   pub effect-stop : {r : Refusal} → verdictOn m s t q b ≡ stop r → effectOn m s t q b ≡ nothing
@@ -135,6 +207,31 @@ by-effect P m s t q b n g = go (verdict (checks m s t q b))
     go : (v : Verdict) → P (settle v s t (grant m t q b) .effect)
     go pass = g
     go (stop r) = n
+
+-- ---- 11
+
+module _ (s : State) (t : List ℕ) (g : Grant) where
+  ended-left : book s t g .state .next ≤ spent → ended s t g ≡ carried s t g
+  unfolding ended
+  ended-left h = rw (le-leb (book s t g .state .next) spent h)
+
+  ended-spent : spent < book s t g .state .next → ended s t g ≡ refused s t atNonces
+  unfolding ended
+  ended-spent h = rw (lt-leb (book s t g .state .next) spent h)
+
+  -- enough nonces are left
+  pub left-ruled : book s t g .state .next ≤ spent → (x : Ruling) → x ≡ ruled (carried s t g) → x ≡ ruled (ended s t g)
+  left-ruled h x e = e ∙ ap ruled (sym (ended-left h))
+
+  pub left-effect : book s t g .state .next ≤ spent → ended s t g .effect ≡ g .effect
+  left-effect h = ap (λ (d : Decision). d .effect) (ended-left h)
+
+  -- too few are
+  pub spent-effect : spent < book s t g .state .next → ended s t g .effect ≡ nothing
+  spent-effect h = ap (λ (d : Decision). d .effect) (ended-spent h)
+
+pub spent-ruled : (s : StateWords) (t : List ℕ) (g : Grant) → spent < book (stateAs s) t g .state .next → (r : Outcome) → r ≡ refusing s Nonces → handed r t ≡ ruled (ended (stateAs s) t g)
+spent-ruled s t g h r e = ap (λ (r : Outcome). handed r t) e ∙ ap ruled (sym (ended-spent (stateAs s) t g h))
 
 pub decided-stop : (m : ℕ) (s : StateWords) (t : List ℕ) (q : Request) (b : List ℕ) (why : code.Refusal) (r : Outcome) → r ≡ refusing s why → verdictOn m (stateAs s) t q b ≡ stopAs why
     → handed r t ≡ rulingOn m (stateAs s) t q b

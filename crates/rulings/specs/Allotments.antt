@@ -1,17 +1,16 @@
--- A new number, and nonces for what is issued.
+-- A new number for what is issued.
 -- Assumes nothing.
 use mathlib.Core.Path.{_≡_}
 use mathlib.Core.List.{List, [], _∷_}
-use Prim.Native.Nat.{ℕ, _+_, _/_, _≤_, _<_}
-use lib.Dec.{leb}
+use Prim.Native.Nat.{ℕ, _/_, _≤_, _<_}
 use lib.ListN.{length}
 use Rattle.checks.specs.Refusals.{stopAs}
 use Rattle.machine.specs.Issuing.{newNumber}
 use Rattle.machine.specs.Parts.{spent, State}
 use Rattle.machine.specs.Requests.{Request}
 use Rattle.machine.specs.Steps.{pass, Verdict, verdict}
-use Rattle.machine.specs.Stops.{atNonces, need, numberLeft}
-use Rattle.rulings.specs.Rulings.{verdictOn}
+use Rattle.machine.specs.Stops.{numberLeft}
+use Rattle.rulings.specs.Rulings.{frontOn}
 use Rattle.rulings.specs.declared.allot.Allotted.{Allotted}
 use Rattle.rulings.specs.declared.allot.Allotted.the-variants.{Number, Stop}
 
@@ -27,10 +26,10 @@ abbrev pub Allots : State → List ℕ → Allotted → Verdict → Type 0
 Allots s t (Stop why) v = v ≡ stopAs why
 Allots s t (Number n) v = (v ≡ pass) × (n ≡ newNumber s t)
 
--- places 10 and 11, where so many nonces are wanted
-unfoldable pub allotVerdict : State → List ℕ → (nonces : ℕ) → Verdict
-allotVerdict s t k = verdict (numberLeft s t ∷ need atNonces (leb (s .next + k) spent) ∷ [])
+-- place 10
+unfoldable pub allotVerdict : State → List ℕ → Verdict
+allotVerdict s t = verdict (numberLeft s t ∷ [])
 
--- the request passes, and n is the new number
+-- the request passes all places but 11, and n is the new number
 abbrev pub allotted : ℕ → State → List ℕ → Request → ℕ → Type 0
-allotted m s t q n = Allots s t (Number n) (verdictOn m s t q [])
+allotted m s t q n = Allots s t (Number n) (frontOn m s t q [])

@@ -5,10 +5,10 @@ use Prim.Native.Nat.{ℕ}
 use Rattle.checks.specs.Refusals.{refusalAs, stopAs}
 use Rattle.checks.specs.declared.refusal.Refusal.{Refusal}
 use Rattle.machine.specs.Operations as machine
-use Rattle.machine.specs.Operations.{carried, Decision, Effect, grant, granted}
+use Rattle.machine.specs.Operations.{carried, Decision, Effect, Grant, grant, granted}
 use Rattle.machine.specs.Parts.{State}
 use Rattle.machine.specs.Requests.{Request}
-use Rattle.machine.specs.Steps.{decide, pass, turnedAway, Verdict, verdict}
+use Rattle.machine.specs.Steps.{decide, pass, settle, turnedAway, Verdict, verdict}
 use Rattle.machine.specs.Stops.{atRequest, checks, needAll, noncesLeft, places, sizes}
 use Rattle.table.specs.States.{stateAs}
 use Rattle.table.specs.declared.state.StateWords.{StateWords}
@@ -64,6 +64,13 @@ tokensOn m s t q b = let p = places m s t q b in verdict (p .after ++ p .tokens)
 unfoldable pub restOn : ℕ → State → List ℕ → Request → List ℕ → Verdict
 restOn m s t q b = verdict (places m s t q b .rest ++ (noncesLeft s t (grant m t q b) ∷ []))
 
+-- 11 comes last, and goes by what is to be issued: the verdict on all places before it, and on those of them behind the tokens
+unfoldable pub frontOn : ℕ → State → List ℕ → Request → List ℕ → Verdict
+frontOn m s t q b = let p = places m s t q b in verdict (needAll atRequest (sizes m t ++ p .request) ++ ((p .after ++ p .tokens) ++ p .rest))
+
+unfoldable pub innerOn : ℕ → State → List ℕ → Request → List ℕ → Verdict
+innerOn m s t q b = verdict (places m s t q b .rest)
+
 -- what the code's checks come to
 abbrev pub checkedAs : Checked → Verdict
 checkedAs (Stop why) = stopAs why
@@ -79,6 +86,10 @@ pub record Ruling : Type 0 where
 
 abbrev pub ruled : Decision → Ruling
 ruled d = record { state = d .state; table = d .table; reply = d .reply }
+
+-- what place 11 makes of a grant, where all others let it through
+unfoldable pub ended : State → List ℕ → Grant → Decision
+ended s t g = settle (verdict (noncesLeft s t g ∷ [])) s t g
 
 -- of a grant, and of a request
 unfoldable pub granting : ℕ → State → List ℕ → Request → List ℕ → Ruling

@@ -1,8 +1,7 @@
-// A new number, and nonces for what is issued: places 10 and 11.
+// A new number for what is issued: place 10.
 use checks::refusal::Refusal;
 use numbers::numbers::new_number;
 use table::state::StateWords;
-ghost use Prim.Native.Nat.{_≤_};
 ghost use Rattle.table.specs.States.{stateAs};
 ghost use Rattle.rulings.specs.Allotments.{Allots, allotVerdict, Limits};
 
@@ -12,17 +11,14 @@ pub enum Allotted {
     Number(usize),
 }
 
-pub fn allot(s: StateWords, table: &[u8], nonces: u64) -> Allotted
-    requires { ⌜ Limits (stateAs s) (now table) × (nonces ≤ 2) ⌝ }
-    ensures { λ r. ⌜ Allots (stateAs s) (now (table .entry)) r (allotVerdict (stateAs s) (now (table .entry)) nonces) ⌝ }
+pub fn allot(s: StateWords, table: &[u8]) -> Allotted
+    requires { ⌜ Limits (stateAs s) (now table) ⌝ }
+    ensures { λ r. ⌜ Allots (stateAs s) (now (table .entry)) r (allotVerdict (stateAs s) (now (table .entry))) ⌝ }
 {
     let new = new_number(s, table);
     if new == 0 {
-        return Allotted::Stop(Refusal::Numbers);
-    }
-    if s.next + nonces <= 4294967296 {
-        Allotted::Number(new)
+        Allotted::Stop(Refusal::Numbers)
     } else {
-        Allotted::Stop(Refusal::Nonces)
+        Allotted::Number(new)
     }
 }

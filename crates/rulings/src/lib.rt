@@ -1,3 +1,3 @@
-// What the operations share: what is handed back, and a new number with nonces for what is issued.
+// What the operations share: what is handed back, and a new number for what is issued.
 pub mod allot;
 pub mod reply;

@@ -5,6 +5,8 @@ use checks::reach::opens;
 use checks::reach::reach_near;
 use checks::refusal::Refusal;
 use checks::settings::settings;
+use entering::nonces::find;
+use entering::nonces::find_two;
 use issuing::writes::give;
 use issuing::writes::give_and_reissue;
 use layout::entry::Entry;
@@ -20,29 +22,19 @@ use table::state::StateWords;
 use tokens::permissions::within;
 use tokens::token::read;
 ghost use mathlib.Core.Path.{_≡_};
-ghost use mathlib.Core.Bool.{cond};
 ghost use mathlib.Core.List.{[]};
 ghost use Prim.Native.Nat.{ℕ, _≤_};
-ghost use lib.Dec.{eqb};
 ghost use lib.ListN as list;
-ghost use Rattle.machine.specs.Operations.{namedEntry};
+ghost use Rattle.machine.specs.Operations.{grant, namedEntry};
 ghost use Rattle.machine.specs.Requests as request;
 ghost use Rattle.table.specs.States.{stateAs};
 ghost use Rattle.rulings.specs.Allotments.{allotted, Allots, Limits};
-ghost use Rattle.rulings.specs.Rulings.{granting, handed, restOn, rulingOn, verdictOn};
+ghost use Rattle.rulings.specs.Rulings.{ended, frontOn, handed, innerOn, ruled, rulingOn};
 
-// One nonce for the part, and one for the rest if there is any.
-fn nonces(length: u64, whole: u64) -> u64
-    ensures { λ r. ⌜ r ≡ cond (eqb length whole) 1 2 ⌝ }
-    ensures { λ r. ⌜ r ≤ 2 ⌝ }
-{
-    if length == whole { 1 } else { 2 }
-}
-
-// Places 6 to 11 for the entry e, whatever token names it and whatever the request carries besides.
+// Places 6 to 10 for the entry e, whatever token names it and whatever the request carries besides.
 fn check_cut(s: StateWords, table: &[u8], e: Entry, length: u64, permissions: u64) -> Allotted
     requires { ⌜ Limits (stateAs s) (now table) × (permissions ≤ 7) ⌝ }
-    ensures { λ r. ⌜ ((m k u x c : ℕ) → e ≡ namedEntry (now (table .entry)) k → Allots (stateAs s) (now (table .entry)) r (restOn m (stateAs s) (now (table .entry)) (request.create k u length x permissions c) [])) ⌝ }
+    ensures { λ r. ⌜ ((m k u x c : ℕ) → e ≡ namedEntry (now (table .entry)) k → Allots (stateAs s) (now (table .entry)) r (innerOn m (stateAs s) (now (table .entry)) (request.create k u length x permissions c) [])) ⌝ }
 {
     let whole = e.length as u64;
     if e.kind != 1 {
@@ -57,7 +49,7 @@ fn check_cut(s: StateWords, table: &[u8], e: Entry, length: u64, permissions: u6
     if !(!e.locked & (e.count == 0)) {
         return Allotted::Stop(Refusal::Standing);
     }
-    allot(s, table, nonces(length, whole))
+    allot(s, table)
 }
 
 fn check_create(
@@ -71,7 +63,7 @@ fn check_create(
     permissions: u64,
     encoding: u64,
 ) -> Allotted
-    ensures { λ r. ⌜ Allots (stateAs s) (now (table .entry)) r (verdictOn memory (stateAs s) (now (table .entry)) (request.create token task length user permissions encoding) []) ⌝ }
+    ensures { λ r. ⌜ Allots (stateAs s) (now (table .entry)) r (frontOn memory (stateAs s) (now (table .entry)) (request.create token task length user permissions encoding) []) ⌝ }
 {
     let named = read(token);
     if settings(memory, s, table)
@@ -95,7 +87,8 @@ fn check_create(
     }
 }
 
-// The part is issued under the new number. The rest is issued anew, or freed if nothing is left.
+// The part is issued under the new number. The rest is issued anew, or freed if nothing is left. The
+// nonces for both are found before anything is written.
 fn grant_create(
     mut s: StateWords,
     table: &mut [u8],
@@ -109,7 +102,7 @@ fn grant_create(
     encoding: u64,
 ) -> Outcome
     requires { ⌜ allotted memory (stateAs s) (now table) (request.create token task length user permissions encoding) new ⌝ }
-    ensures { λ r. ⌜ handed r (now (table .exit)) ≡ granting memory (stateAs s) (now (table .entry)) (request.create token task length user permissions encoding) [] ⌝ }
+    ensures { λ r. ⌜ handed r (now (table .exit)) ≡ ruled (ended (stateAs s) (now (table .entry)) (grant memory (now (table .entry)) (request.create token task length user permissions encoding) [])) ⌝ }
 {
     let named = read(token);
     let n = named.number as usize;
@@ -117,16 +110,27 @@ fn grant_create(
     let long = length as u32;
     let part = issued_direct(e.base, long, user, permissions as u8, e.lockable);
     if long == e.length {
-        let given = give(s, table, new, part, encoding);
-        let mut words = given.state;
-        words.total = vacate(words.total, table, n);
-        giving(words, given.token)
+        let found = find(s, table, new, part);
+        if found.nonce < 4294967296 {
+            let given = give(s, table, new, part, found, encoding);
+            let mut words = given.state;
+            words.total = vacate(words.total, table, n);
+            giving(words, given.token)
+        } else {
+            refused(s, Refusal::Nonces)
+        }
     } else {
         let base = e.base + long;
         let left = e.length - long;
         let rest = issued_direct(base, left, e.user, e.permissions, e.lockable);
-        let both = give_and_reissue(s, table, new, part, n, rest, encoding);
-        giving_two(both.state, both.first, both.second)
+        let found = find_two(s, table, new, part, n, rest);
+        let last = found.second;
+        if last.nonce < 4294967296 {
+            let both = give_and_reissue(s, table, new, part, n, rest, found, encoding);
+            giving_two(both.state, both.first, both.second)
+        } else {
+            refused(s, Refusal::Nonces)
+        }
     }
 }
 

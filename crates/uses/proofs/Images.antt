@@ -7,7 +7,7 @@ use lib.ListN.{replicate}
 use Rattle.bits.specs.Bytes.{AllBytes, bytes, lowBytes, lowNumber, number}
 use Rattle.bits.specs.SipHash.{absorb, add64, compress, finish, padded, rotl, siphash, sipRound, word}
 use Rattle.bits.proofs.ByteLists.{bytes-zeros}
-use Rattle.layout.specs.Entry.{directNumber, directOf, entryNumber, entryOf, indirectNumber, indirectOf}
+use Rattle.layout.specs.Entry.{directNumber, directOf, entryNumber, entryOf, freeNumber, indirectNumber, indirectOf}
 use Rattle.layout.specs.Form.{illFormed}
 use Rattle.layout.specs.Tag.{tagOf}
 use Rattle.leases.specs.Lease.{allSound, firstLeases, isOpen, leasesOf}
@@ -35,11 +35,11 @@ bytes-from =
 
 -- the dump's text, and what the load of it leaves in a segment that had other bytes
 pub dumped-eight : Dumped from 0 (dumps 0)
-unfolding Dumps numbered bytes number lowBytes lowNumber directNumber directOf entryNumber entryOf indirectNumber indirectOf illFormed allSound firstLeases isOpen leasesOf within absorb add64 compress finish padded rotl siphash sipRound word tagOf passOver seek walk at cleared put size decide step answer
+unfolding Dumps numbered bytes number lowBytes lowNumber directNumber directOf entryNumber entryOf freeNumber indirectNumber indirectOf illFormed allSound firstLeases isOpen leasesOf within absorb add64 compress finish padded rotl siphash sipRound word tagOf passOver seek walk at cleared put size decide step answer
 dumped-eight = dumps-so from 0 0 noShift (replicate 56 0) refl
 
 pub restored-eight : Accepted to loads × (segmentOf (step to loads) 0 ≡ 1 ∷ 2 ∷ 3 ∷ 4 ∷ 5 ∷ 6 ∷ 7 ∷ 8 ∷ [])
-unfolding Restores before numbered bytes number lowBytes lowNumber directNumber directOf entryNumber entryOf indirectNumber indirectOf illFormed allSound firstLeases isOpen leasesOf within absorb add64 compress finish padded rotl siphash sipRound word tagOf passOver seek walk at cleared put size decide step answer
+unfolding Restores before numbered bytes number lowBytes lowNumber directNumber directOf entryNumber entryOf freeNumber indirectNumber indirectOf illFormed allSound firstLeases isOpen leasesOf within absorb add64 compress finish padded rotl siphash sipRound word tagOf passOver seek walk at cleared put size decide step answer
 restored-eight = restores from 0 0 noShift (replicate 56 0) bytes-from refl to 0 0 noShift refl refl refl
 
 pub loaded-eight : Loaded to 0 loads
@@ -51,7 +51,7 @@ pub loads-as-writes : MayLoad to 0 0 noShift (loads .buffer)
 loads-as-writes = as-accesses .loads to 0 0 noShift (loads .buffer) (restored-eight .0)
 
 pub dumps-as-reads : MayDump from 0 0 noShift (replicate 56 0)
-unfolding numbered bytes number lowBytes lowNumber directNumber directOf entryNumber entryOf indirectNumber indirectOf illFormed allSound firstLeases isOpen leasesOf within absorb add64 compress finish padded rotl siphash sipRound word tagOf passOver seek walk at cleared put size decide step answer
+unfolding numbered bytes number lowBytes lowNumber directNumber directOf entryNumber entryOf freeNumber indirectNumber indirectOf illFormed allSound firstLeases isOpen leasesOf within absorb add64 compress finish padded rotl siphash sipRound word tagOf passOver seek walk at cleared put size decide step answer
 dumps-as-reads = as-accesses .dumps from 0 0 noShift (replicate 56 0) refl
 
 -- the child that the revoke closed loads and dumps nothing

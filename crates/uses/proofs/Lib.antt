@@ -1,4 +1,5 @@
 pub mod Images
+pub mod Kept
 pub mod Recorded
 pub mod Shifts
 pub mod Totals

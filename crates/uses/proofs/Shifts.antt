@@ -6,7 +6,7 @@ use Prim.Native.Nat.{ℕ}
 use native.Mathlib.Omega.{arith}
 use lib.ListN.{length}
 use Rattle.bits.specs.Bytes.{bytes, lowBytes, lowNumber, number}
-use Rattle.layout.specs.Entry.{directNumber, directOf, entryNumber, entryOf, indirectNumber, indirectOf}
+use Rattle.layout.specs.Entry.{directNumber, directOf, entryNumber, entryOf, freeNumber, indirectNumber, indirectOf}
 use Rattle.layout.specs.Form.{illFormed}
 use Rattle.leases.specs.Lease.{allSound, covers, firstLeases, isOpen, leaseAt, leasesOf}
 use Rattle.tokens.specs.Permissions.{within}
@@ -25,7 +25,7 @@ abbrev σ : Machine
 
 -- in the window it is granted, so its shift is what the paper asks, and it is decided as without shifts
 pub let-through : Within (during 8 leases) 0
-unfolding before bytes number lowBytes lowNumber directNumber directOf entryNumber entryOf indirectNumber indirectOf illFormed allSound covers firstLeases isOpen leaseAt leasesOf within walk at cleared put size decide step answer
+unfolding before bytes number lowBytes lowNumber directNumber directOf entryNumber entryOf freeNumber indirectNumber indirectOf illFormed allSound covers firstLeases isOpen leaseAt leasesOf within walk at cleared put size decide step answer
 let-through = windows .granted σ {q = reads (during 8 leases)} {r = reads noShift} (accesses {w = reading} {k = 0} {u = 0} {φ = during 8 leases} {ψ = noShift}) (0 ∷ []) refl
 
 pub let-in : decision σ (bringing (reads (during 8 leases)) (0 ∷ [])) ≡ decision σ (bringing (reads noShift) (0 ∷ []))
@@ -34,16 +34,16 @@ let-in = windows .within σ {q = reads (during 8 leases)} {r = reads noShift} (a
 -- before it, at its end, with another's lease unsound, and at a minute beyond the week it is not
 pub turned-away :
     map (λ (φ : Shift). answer σ (bringing (reads φ) (0 ∷ [])) .reply .refusal) (during 0 leases ∷ during 9 leases ∷ during 8 unsound ∷ during 10080 [] ∷ during 1 (0 ∷ []) ∷ []) ≡ 15 ∷ 15 ∷ 16 ∷ 1 ∷ 1 ∷ []
-unfolding before bytes number lowBytes lowNumber directNumber directOf entryNumber entryOf indirectNumber indirectOf illFormed allSound covers firstLeases isOpen leaseAt leasesOf within walk at cleared put size decide step answer
+unfolding before bytes number lowBytes lowNumber directNumber directOf entryNumber entryOf freeNumber indirectNumber indirectOf illFormed allSound covers firstLeases isOpen leaseAt leasesOf within walk at cleared put size decide step answer
 turned-away = refl
 
 -- and each of the two numbers tells its cause
 pub before-opening : Shut (during 0 leases) 0
-unfolding before bytes number lowBytes lowNumber directNumber directOf entryNumber entryOf indirectNumber indirectOf illFormed allSound covers firstLeases isOpen leaseAt leasesOf within walk at cleared put size decide step answer
+unfolding before bytes number lowBytes lowNumber directNumber directOf entryNumber entryOf freeNumber indirectNumber indirectOf illFormed allSound covers firstLeases isOpen leaseAt leasesOf within walk at cleared put size decide step answer
 before-opening = windows .closed σ {q = reads (during 0 leases)} {r = reads noShift} (accesses {w = reading} {k = 0} {u = 0} {φ = during 0 leases} {ψ = noShift}) (0 ∷ []) refl
 
 pub equal-minutes : Unsound (during 8 unsound)
-unfolding before bytes number lowBytes lowNumber directNumber directOf entryNumber entryOf indirectNumber indirectOf illFormed allSound covers firstLeases isOpen leaseAt leasesOf within walk at cleared put size decide step answer
+unfolding before bytes number lowBytes lowNumber directNumber directOf entryNumber entryOf freeNumber indirectNumber indirectOf illFormed allSound covers firstLeases isOpen leaseAt leasesOf within walk at cleared put size decide step answer
 equal-minutes = windows .unsound σ {q = reads (during 8 unsound)} {r = reads noShift} (accesses {w = reading} {k = 0} {u = 0} {φ = during 8 unsound} {ψ = noShift}) (0 ∷ []) refl
 
 -- without leases it is decided as before, at the week's last minute too

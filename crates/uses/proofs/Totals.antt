@@ -6,7 +6,7 @@ use Prim.Native.Nat.{ℕ, _≤_}
 use native.Mathlib.Omega.{arith}
 use Rattle.bits.specs.Bytes.{bytes, lowBytes, lowNumber, number}
 use Rattle.bits.specs.SipHash.{absorb, add64, compress, finish, padded, rotl, siphash, sipRound, word}
-use Rattle.layout.specs.Entry.{directNumber, directOf, entryNumber, entryOf, indirectNumber, indirectOf}
+use Rattle.layout.specs.Entry.{directNumber, directOf, entryNumber, entryOf, freeNumber, indirectNumber, indirectOf}
 use Rattle.layout.specs.Form.{illFormed}
 use Rattle.layout.specs.Tag.{tagOf}
 use Rattle.leases.specs.Lease.{allSound, firstLeases, isOpen, leasesOf}
@@ -30,38 +30,38 @@ two-free = refl
 
 -- two derives and a drop; and from wrong totals: 0 stops at 0 and is too low still, 2 stops at the top and is too high still
 pub from-reset : totals three (reset1 1 ∷ derives ∷ derives ∷ drops ∷ []) ≡ 0 ∷ 2 ∷ 1 ∷ 0 ∷ 1 ∷ []
-unfolding three bytes number lowBytes lowNumber directNumber directOf entryNumber entryOf indirectNumber indirectOf illFormed allSound firstLeases isOpen leasesOf within absorb add64 compress finish padded rotl siphash sipRound word tagOf passOver seek walk climb at cleared put size decide step answer
+unfolding three bytes number lowBytes lowNumber directNumber directOf entryNumber entryOf freeNumber indirectNumber indirectOf illFormed allSound firstLeases isOpen leasesOf within absorb add64 compress finish padded rotl siphash sipRound word tagOf passOver seek walk climb at cleared put size decide step answer
 from-reset = refl
 
 pub from-low : totals tooLow (derives ∷ drops ∷ []) ≡ 0 ∷ 0 ∷ 1 ∷ []
-unfolding three bytes number lowBytes lowNumber directNumber directOf entryNumber entryOf indirectNumber indirectOf illFormed allSound firstLeases isOpen leasesOf within absorb add64 compress finish padded rotl siphash sipRound word tagOf passOver seek walk climb at cleared put size decide step answer
+unfolding three bytes number lowBytes lowNumber directNumber directOf entryNumber entryOf freeNumber indirectNumber indirectOf illFormed allSound firstLeases isOpen leasesOf within absorb add64 compress finish padded rotl siphash sipRound word tagOf passOver seek walk climb at cleared put size decide step answer
 from-low = refl
 
 pub from-high : totals tooHigh (drops ∷ []) ≡ 2 ∷ 2 ∷ []
-unfolding three bytes number lowBytes lowNumber directNumber directOf entryNumber entryOf indirectNumber indirectOf illFormed allSound firstLeases isOpen leasesOf within absorb add64 compress finish padded rotl siphash sipRound word tagOf passOver seek walk climb at cleared put size decide step answer
+unfolding three bytes number lowBytes lowNumber directNumber directOf entryNumber entryOf freeNumber indirectNumber indirectOf illFormed allSound firstLeases isOpen leasesOf within absorb add64 compress finish padded rotl siphash sipRound word tagOf passOver seek walk climb at cleared put size decide step answer
 from-high = refl
 
 -- by the claims: a right total is the count, two wrong ones keep their sides and the range, and the answers are those of the right one
 pub none-left : let τ : Machine = run three (reset1 1 ∷ derives ∷ derives ∷ []) in τ .state .total ≡ freeInAll (τ .table)
-unfolding Kept three bytes number lowBytes lowNumber directNumber directOf entryNumber entryOf indirectNumber indirectOf illFormed allSound firstLeases isOpen leasesOf within absorb add64 compress finish padded rotl siphash sipRound word tagOf passOver seek walk climb at cleared put size decide step answer
+unfolding Kept three bytes number lowBytes lowNumber directNumber directOf entryNumber entryOf freeNumber indirectNumber indirectOf illFormed allSound firstLeases isOpen leasesOf within absorb add64 compress finish padded rotl siphash sipRound word tagOf passOver seek walk climb at cleared put size decide step answer
 none-left = kept three 0 0 1 [] refl (derives ∷ derives ∷ [])
 
 pub stays-low : Beside tooLow (run tooLow (derives ∷ drops ∷ []))
-unfolding Sides three bytes number lowBytes lowNumber directNumber directOf entryNumber entryOf indirectNumber indirectOf illFormed allSound firstLeases isOpen leasesOf within absorb add64 compress finish padded rotl siphash sipRound word tagOf passOver seek walk climb at cleared put size decide step answer
+unfolding Sides three bytes number lowBytes lowNumber directNumber directOf entryNumber entryOf freeNumber indirectNumber indirectOf illFormed allSound firstLeases isOpen leasesOf within absorb add64 compress finish padded rotl siphash sipRound word tagOf passOver seek walk climb at cleared put size decide step answer
 stays-low = sides three 0 0 1 [] refl [] (derives ∷ drops ∷ []) 0
 
 pub stays-high : Beside tooHigh (run tooHigh (drops ∷ []))
-unfolding Sides three bytes number lowBytes lowNumber directNumber directOf entryNumber entryOf indirectNumber indirectOf illFormed allSound firstLeases isOpen leasesOf within absorb add64 compress finish padded rotl siphash sipRound word tagOf passOver seek walk climb at cleared put size decide step answer
+unfolding Sides three bytes number lowBytes lowNumber directNumber directOf entryNumber entryOf freeNumber indirectNumber indirectOf illFormed allSound firstLeases isOpen leasesOf within absorb add64 compress finish padded rotl siphash sipRound word tagOf passOver seek walk climb at cleared put size decide step answer
 stays-high = sides three 0 0 1 [] refl (derives ∷ derives ∷ []) (drops ∷ []) 2
 
 pub too-high : freeInAll (tooHigh .table) ≤ tooHigh .state .total
-unfolding addedBelow three bytes number lowBytes lowNumber directNumber directOf entryNumber entryOf indirectNumber indirectOf illFormed allSound firstLeases isOpen leasesOf within absorb add64 compress finish padded rotl siphash sipRound word tagOf passOver seek walk climb at cleared put size decide step answer
+unfolding addedBelow three bytes number lowBytes lowNumber directNumber directOf entryNumber entryOf freeNumber indirectNumber indirectOf illFormed allSound firstLeases isOpen leasesOf within absorb add64 compress finish padded rotl siphash sipRound word tagOf passOver seek walk climb at cleared put size decide step answer
 too-high = omega arith
 
 pub in-the-range : let τ : Machine = run tooHigh (drops ∷ []) in τ .state .total ≤ mostFree (τ .table)
-unfolding InRange three bytes number lowBytes lowNumber directNumber directOf entryNumber entryOf indirectNumber indirectOf illFormed allSound firstLeases isOpen leasesOf within absorb add64 compress finish padded rotl siphash sipRound word tagOf passOver seek walk climb at cleared put size decide step answer
+unfolding InRange three bytes number lowBytes lowNumber directNumber directOf entryNumber entryOf freeNumber indirectNumber indirectOf illFormed allSound firstLeases isOpen leasesOf within absorb add64 compress finish padded rotl siphash sipRound word tagOf passOver seek walk climb at cleared put size decide step answer
 in-the-range = in-range tooHigh (drops ∷ []) (omega arith)
 
 pub answered-alike : let σ : Machine = run three (reset1 1 ∷ []) in answers (handedTotal σ 0) (derives ∷ drops ∷ []) ≡ answers σ (derives ∷ drops ∷ [])
-unfolding Unseen three bytes number lowBytes lowNumber directNumber directOf entryNumber entryOf indirectNumber indirectOf illFormed allSound firstLeases isOpen leasesOf within absorb add64 compress finish padded rotl siphash sipRound word tagOf passOver seek walk climb at cleared put size decide step answer
+unfolding Unseen three bytes number lowBytes lowNumber directNumber directOf entryNumber entryOf freeNumber indirectNumber indirectOf illFormed allSound firstLeases isOpen leasesOf within absorb add64 compress finish padded rotl siphash sipRound word tagOf passOver seek walk climb at cleared put size decide step answer
 answered-alike = unseen (run three (reset1 1 ∷ [])) 0 (omega arith) (omega arith) (derives ∷ drops ∷ []) .0

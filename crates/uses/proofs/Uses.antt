@@ -8,7 +8,7 @@ use native.Mathlib.Omega.{arith}
 use lib.ListN.{getD, length-set}
 use lib.Seq.{getD-set-other}
 use Rattle.bits.specs.Bytes.{AllBytes, bytes, lowBytes, lowNumber, number}
-use Rattle.layout.specs.Entry.{directNumber, directOf, entryNumber, entryOf, indirectNumber, indirectOf}
+use Rattle.layout.specs.Entry.{directNumber, directOf, entryNumber, entryOf, freeNumber, indirectNumber, indirectOf}
 use Rattle.layout.specs.Form.{illFormed}
 use Rattle.leases.specs.Lease.{allSound, firstLeases, isOpen, leasesOf}
 use Rattle.tokens.specs.Permissions.{within}
@@ -16,7 +16,7 @@ use Rattle.bits.specs.SipHash.{absorb, add64, compress, finish, padded, rotl, s
 use Rattle.layout.specs.Tag.{tagOf}
 use Rattle.layout.specs.declared.entry.Entry.{Entry}
 use Rattle.machine.specs.Demand3 as claim
-use Rattle.machine.specs.Demand3.{above, Accepted, Alike, Closed, Demand3, In, issuedIn, itself, LockedFor, Secret, Unreset}
+use Rattle.machine.specs.Demand3.{above, Accepted, Alike, Closed, Demand3, In, issuedIn, itself, LockedFor, Returns, Secret, Unreset}
 use Rattle.machine.specs.Depth.{Bounded, climbMeets, Depth, dropMeets, lineMeets, walkMeets}
 use Rattle.machine.specs.FromReset.{FromReset}
 use Rattle.machine.specs.Issuing.{passOver, seek}
@@ -32,6 +32,7 @@ use Rattle.uses.specs.Uses.{before, changed, child, derives, drops, Firs
 use Rattle.bits.proofs.ByteLists.{bytes-zeros}
 use Rattle.machine.proofs.Depth.{depth}
 use Rattle.machine.proofs.FromReset.{from-reset}
+use Rattle.machine.proofs.LastToken.{issued-again}
 use Rattle.machine.proofs.Lent.{bytes-stay}
 use Rattle.machine.proofs.Theorem.{alike-refl, demand3}
 use Rattle.machine.proofs.Unchanged.{held-drop, lock-again}
@@ -41,7 +42,7 @@ use Rattle.machine.proofs.WholeDerive.{parts, whole-passed}
 
 -- demand 3, for a token whose premises are met
 closed-by : (σ : Machine) (f : First) (qs : List Call) (r : Call) (a : List Call) (q : Call) (b : List Call) (k : Name) → Premises σ f qs r a q b k
-    → (zs : List Call) → Unreset (step (run (run σ (listOf f)) qs) r) zs → (List·Memᴰ k (issuedIn (step (run σ a) q) (b ++ (r ∷ zs))) → ⊥) → Closed (run (step (run (run σ (listOf f)) qs) r) zs) k
+    → (zs : List Call) → Unreset (step (run (run σ (listOf f)) qs) r) zs → (Returns (step (run σ a) q) (b ++ (r ∷ zs)) k → ⊥) → Closed (run (step (run (run σ (listOf f)) qs) r) zs) k
 unfolding Demand3
 closed-by σ f qs r a q b k p zs n =
     let τ : Machine = run σ (listOf f) in
@@ -53,7 +54,7 @@ closed-by σ f qs r a q b k p zs n =
 pub child-premises :
     Premises before (first 1 (derives ∷ reset1 0 ∷ locks7 ∷ [])) (read 0 8 ∷ []) (revokes 0) (reset1 1 ∷ []) derives (reset1 0 ∷ locks7 ∷ read 0 8 ∷ []) child
     × (List·Memᴰ child (issuedIn (step (run before (reset1 1 ∷ [])) derives) (reset1 0 ∷ locks7 ∷ read 0 8 ∷ revokes 0 ∷ [])) → ⊥)
-unfolding before bytes number lowBytes lowNumber directNumber directOf entryNumber entryOf indirectNumber indirectOf illFormed allSound firstLeases isOpen leasesOf within absorb add64 compress finish padded rotl siphash sipRound word tagOf passOver seek walk at cleared put size decide step answer
+unfolding before bytes number lowBytes lowNumber directNumber directOf entryNumber entryOf freeNumber indirectNumber indirectOf illFormed allSound firstLeases isOpen leasesOf within absorb add64 compress finish padded rotl siphash sipRound word tagOf passOver seek walk at cleared put size decide step answer
 child-premises = (
   record {
     accepted = refl;
@@ -75,7 +76,7 @@ child-premises = (
 
 pub child-closed : Closed (run before (reset1 1 ∷ derives ∷ reset1 0 ∷ locks7 ∷ read 0 8 ∷ revokes 0 ∷ [])) child
 child-closed =
-    closed-by before (first 1 (derives ∷ reset1 0 ∷ locks7 ∷ [])) (read 0 8 ∷ []) (revokes 0) (reset1 1 ∷ []) derives (reset1 0 ∷ locks7 ∷ read 0 8 ∷ []) child (child-premises .0) [] tt (child-premises .1)
+    closed-by before (first 1 (derives ∷ reset1 0 ∷ locks7 ∷ [])) (read 0 8 ∷ []) (revokes 0) (reset1 1 ∷ []) derives (reset1 0 ∷ locks7 ∷ read 0 8 ∷ []) child (child-premises .0) [] tt (λ h. child-premises .1 (issued-again (step (run before (reset1 1 ∷ [])) derives) (reset1 0 ∷ locks7 ∷ read 0 8 ∷ revokes 0 ∷ []) child h))
 
 -- ---- "none carrying t" is needed: a read by the holder tells two copies apart
 
@@ -100,24 +101,24 @@ pub holder-reads :
     let e : Entry = at (τ .table) 0 in
     Accepted before (reset1 1) × LockedFor τ 0 7 × Alike e τ (changed τ 3 5)
     × (Secret before (listOf (first 1 (locks7 ∷ []))) 0 e τ (changed τ 3 5) (read 3 7 ∷ []) → ⊥)
-unfolding before firstByte bytes number lowBytes lowNumber directNumber directOf entryNumber entryOf indirectNumber indirectOf illFormed allSound firstLeases isOpen leasesOf within absorb add64 compress finish padded rotl siphash sipRound word tagOf passOver seek walk at cleared put size decide step answer
+unfolding before firstByte bytes number lowBytes lowNumber directNumber directOf entryNumber entryOf freeNumber indirectNumber indirectOf illFormed allSound firstLeases isOpen leasesOf within absorb add64 compress finish padded rotl siphash sipRound word tagOf passOver seek walk at cleared put size decide step answer
 holder-reads =
     let τ : Machine = run before (listOf (first 1 (locks7 ∷ []))) in
     (refl, record { direct = refl; locked = refl; held = refl }, one-byte (at (τ .table) 0) τ 3 5 (omega arith, omega arith), λ s. let z : _≡_ {A = ℕ} 9 5 = ap firstByte (s .same) in omega arith)
 
--- ---- "unless the same number and tag were issued again" is needed: a token opens again
+-- ---- "only where the number held another tag between the token's giving and its issuing again" is needed: a token opens again
 
 -- The first nonce is such that two revokes in a row bring the first tag back: the first gives tag 23730, and the second, which passes over that
--- one alone, gives tag 0. Between them the token is refused; after them a read through it is granted, to whatever task.
+-- one alone, gives tag 0. Between them the token is refused; after them a read through it is granted, to whatever task. So it returns, after another tag.
 pub opens-again :
     let r : Call = revokes 0 in
     let z : Call = revokes 1669850299335966720 in
     let τ : Machine = run before (listOf (first 87419 (locks7 ∷ []))) in
     Premises before (first 87419 (locks7 ∷ [])) [] r [] (reset1 87419) (locks7 ∷ []) rootName
     × (answer (step τ r) (read 0 0) .reply .refusal ≡ 2)
-    × List·Memᴰ rootName (issuedIn (step before (reset1 87419)) (locks7 ∷ r ∷ z ∷ []))
+    × Returns (step before (reset1 87419)) (locks7 ∷ r ∷ z ∷ []) rootName
     × (Closed (run (step τ r) (z ∷ [])) rootName → ⊥)
-unfolding before bytes number lowBytes lowNumber directNumber directOf entryNumber entryOf indirectNumber indirectOf illFormed allSound firstLeases isOpen leasesOf within absorb add64 compress finish padded rotl siphash sipRound word tagOf passOver seek walk at cleared put size decide step answer
+unfolding before bytes number lowBytes lowNumber directNumber directOf entryNumber entryOf freeNumber indirectNumber indirectOf illFormed allSound firstLeases isOpen leasesOf within absorb add64 compress finish padded rotl siphash sipRound word tagOf passOver seek walk at cleared put size decide step answer
 opens-again = (
   record {
     accepted = refl;
@@ -131,7 +132,7 @@ opens-again = (
     under = record { owner = 0; owns = itself refl; byte = 0; theirs = omega arith; ours = omega arith };
   },
   refl,
-  List·Memᴰ·tail (List·Memᴰ·head refl),
+  inr (inr (inl (record { there = λ e. omega arith; other = λ e. omega arith }, List·Memᴰ·head refl))),
   λ c. c reading 0 0 noShift (0 ∷ []) refl refl refl,
 )
 
@@ -153,13 +154,13 @@ bytes-left =
 pub locked-again :
     let τ : Machine = run before (reset1 1 ∷ derives ∷ locks7 ∷ []) in
     step τ locks7 ≡ τ
-unfolding LockAgain before bytes number lowBytes lowNumber directNumber directOf entryNumber entryOf indirectNumber indirectOf illFormed allSound firstLeases isOpen leasesOf within absorb add64 compress finish padded rotl siphash sipRound word tagOf passOver seek walk at cleared put size decide step answer
+unfolding LockAgain before bytes number lowBytes lowNumber directNumber directOf entryNumber entryOf freeNumber indirectNumber indirectOf illFormed allSound firstLeases isOpen leasesOf within absorb add64 compress finish padded rotl siphash sipRound word tagOf passOver seek walk at cleared put size decide step answer
 locked-again = lock-again (run before (reset1 1 ∷ derives ∷ locks7 ∷ [])) 0 7 [] bytes-left refl refl
 
 pub dropped-under-lock :
     let τ : Machine = run before (reset1 1 ∷ derives ∷ locks7 ∷ []) in
     (step τ drops ≡ τ) × (answer τ drops .reply .dropped ≡ 0)
-unfolding HeldDrop before bytes number lowBytes lowNumber directNumber directOf entryNumber entryOf indirectNumber indirectOf illFormed allSound firstLeases isOpen leasesOf within absorb add64 compress finish padded rotl siphash sipRound word tagOf passOver seek walk at cleared put size decide step answer
+unfolding HeldDrop before bytes number lowBytes lowNumber directNumber directOf entryNumber entryOf freeNumber indirectNumber indirectOf illFormed allSound firstLeases isOpen leasesOf within absorb add64 compress finish padded rotl siphash sipRound word tagOf passOver seek walk at cleared put size decide step answer
 dropped-under-lock = held-drop (run before (reset1 1 ∷ derives ∷ locks7 ∷ [])) (tokenFor 0 child) [] refl refl
 
 -- ---- how far a walk and a climb go: the child's line and its drop meet every entry of a table of two
@@ -167,27 +168,27 @@ dropped-under-lock = held-drop (run before (reset1 1 ∷ derives ∷ locks7 ∷ 
 pub all-met :
     let t : List ℕ = run before (reset1 1 ∷ derives ∷ []) .table in
     Bounded 8 t 1 × (lineMeets 8 t 1 ≡ 1 ∷ 0 ∷ []) × (dropMeets t 1 ≡ 1 ∷ 0 ∷ []) × (size t ≡ 2)
-unfolding Depth walkMeets climbMeets before bytes number lowBytes lowNumber directNumber directOf entryNumber entryOf indirectNumber indirectOf illFormed allSound firstLeases isOpen leasesOf within absorb add64 compress finish padded rotl siphash sipRound word tagOf passOver seek walk at cleared put size decide step answer
+unfolding Depth walkMeets climbMeets before bytes number lowBytes lowNumber directNumber directOf entryNumber entryOf freeNumber indirectNumber indirectOf illFormed allSound firstLeases isOpen leasesOf within absorb add64 compress finish padded rotl siphash sipRound word tagOf passOver seek walk at cleared put size decide step answer
 all-met = (depth 8 (run before (reset1 1 ∷ derives ∷ []) .table) 1 (omega arith), refl, refl, refl)
 
 -- ---- a buffer passed on whole: the root of 8 bytes, and a root of one byte
 
 -- as bytes 2 to 4 may be passed on, so may the last one alone
 pub last-passed : Accepted (step before (reset1 1)) (deriveCall 0 7 1 4 0 [])
-unfolding Parts before bytes number lowBytes lowNumber directNumber directOf entryNumber entryOf indirectNumber indirectOf illFormed allSound firstLeases isOpen leasesOf within absorb add64 compress finish padded rotl siphash sipRound word tagOf passOver seek walk at cleared put size decide step answer
-last-passed = parts (step before (reset1 1)) 0 2 3 4 0 [] refl 7 1 (λ z. omega arith) (omega arith)
+unfolding Parts before bytes number lowBytes lowNumber directNumber directOf entryNumber entryOf freeNumber indirectNumber indirectOf illFormed allSound firstLeases isOpen leasesOf within absorb add64 compress finish padded rotl siphash sipRound word tagOf passOver seek walk at cleared put size decide step answer
+last-passed = parts (step before (reset1 1)) 0 2 3 4 0 [] refl 7 1 (λ z. omega arith) (omega arith) (λ e. omega arith)
 
 pub whole-passed-on : PassedOn (step before (reset1 1)) 0 4 (passes 8)
-unfolding FromReset Whole before bytes number lowBytes lowNumber directNumber directOf entryNumber entryOf indirectNumber indirectOf illFormed allSound firstLeases isOpen leasesOf within absorb add64 compress finish padded rotl siphash sipRound word tagOf passOver seek walk at cleared put size decide step answer
+unfolding FromReset Whole before bytes number lowBytes lowNumber directNumber directOf entryNumber entryOf freeNumber indirectNumber indirectOf illFormed allSound firstLeases isOpen leasesOf within absorb add64 compress finish padded rotl siphash sipRound word tagOf passOver seek walk at cleared put size decide step answer
 whole-passed-on = whole-passed (step before (reset1 1)) (from-reset before 0 0 1 [] refl [] tt) 0 4 0 [] refl
 
 -- its last byte is read through what was given, and none beyond
 pub last-read :
     let τ : Machine = step (step before (reset1 1)) (passes 8) in
     (answer τ (readPassed 7) .buffer ≡ 9 ∷ []) × (answer τ (readPassed 8) .reply .refusal ≡ 8)
-unfolding before bytes number lowBytes lowNumber directNumber directOf entryNumber entryOf indirectNumber indirectOf illFormed allSound firstLeases isOpen leasesOf within absorb add64 compress finish padded rotl siphash sipRound word tagOf passOver seek walk at cleared put size decide step answer
+unfolding before bytes number lowBytes lowNumber directNumber directOf entryNumber entryOf freeNumber indirectNumber indirectOf illFormed allSound firstLeases isOpen leasesOf within absorb add64 compress finish padded rotl siphash sipRound word tagOf passOver seek walk at cleared put size decide step answer
 last-read = (refl, refl)
 
 pub one-byte-passed-on : PassedOn (step single (reset1 1)) 0 4 (passes 1)
-unfolding FromReset Whole single bytes number lowBytes lowNumber directNumber directOf entryNumber entryOf indirectNumber indirectOf illFormed allSound firstLeases isOpen leasesOf within absorb add64 compress finish padded rotl siphash sipRound word tagOf passOver seek walk at cleared put size decide step answer
+unfolding FromReset Whole single bytes number lowBytes lowNumber directNumber directOf entryNumber entryOf freeNumber indirectNumber indirectOf illFormed allSound firstLeases isOpen leasesOf within absorb add64 compress finish padded rotl siphash sipRound word tagOf passOver seek walk at cleared put size decide step answer
 one-byte-passed-on = whole-passed (step single (reset1 1)) (from-reset single 0 0 1 [] refl [] tt) 0 4 0 [] refl

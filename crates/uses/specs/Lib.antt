@@ -1,4 +1,5 @@
 pub mod Images
+pub mod Kept
 pub mod Shifts
 pub mod Totals
 pub mod Uses

@@ -5,6 +5,7 @@ mod bits;
 mod counts;
 mod deep;
 mod encodings;
+mod found;
 mod images;
 mod large;
 mod lines;
@@ -58,6 +59,9 @@ pub const ALL: &[Kind] = &[
     kind("climbs", 100, lines::climbs, "drops that climb, with counts of 0, 1 and 2 on their way"),
     kind("counts", 100, counts::play, "counts at 0, 1, 2, 65,534 and 65,535"),
     kind("nonces", 60, nonces::play, "the last nonces, and those outside the limits"),
+    kind("passed", 3, passed::play, "issues that pass over one nonce or two, also the last ones"),
+    kind("revived", 3, revived::play, "a freed number with an older tag again, under a live child"),
+    kind("rest", 3, rest::play, "a root's rest with tag 0 again, so that token 0 works again"),
     kind("tasks", 30, tasks::play, "tasks around 2^55, as holder and as asker"),
     kind("totals", 120, totals::play, "free totals at their ends, wrong ones, and those above"),
     kind(
@@ -81,9 +85,6 @@ pub const ALL: &[Kind] = &[
     kind("rubbish", 80, rubbish::play, "tables, states and requests of random bytes"),
     kind("bits", 12, bits::play, "each bit of an entry flipped, one at a time, in a live table"),
     kind("sizes", 20, sizes::play, "sizes one inside and one outside each limit"),
-    kind("passed", 3, passed::play, "a revoke that passes over one nonce or two, also the last"),
-    kind("revived", 3, revived::play, "a freed number again with its old tag, under a live child"),
-    kind("rest", 3, rest::play, "a root's rest with tag 0, so that token 0 keeps working"),
     kind("deep", 12, deep::play, "handed-over lines as deep as the table, up to 1,023 links"),
     kind("derived", 1, deep::derived, "a line derived link by link over the whole table"),
     kind("large", 1, large::play, "16 MiB of memory, 1,024 entries, and memories one byte off"),

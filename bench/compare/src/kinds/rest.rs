@@ -1,28 +1,31 @@
-//! A root's rest with tag 0: token 0 is a token that was given, and plain addresses keep working
-//! with the rest's base.
+//! A root's rest with tag 0 again, after another tag: token 0 is a token that was given, and plain
+//! addresses work again with the rest's base.
 
 use bridge::Operation;
 use session::entry::Entry;
 
+use super::found;
 use crate::player::Player;
 use crate::{tag, wild, worlds};
 
 const MEMORY: u64 = 256;
 
 pub fn play(player: &mut Player) {
-    let part = player.dice.between(1, MEMORY - 1);
-    let rest = Entry::direct(part, MEMORY - part);
-    let mut key = worlds::key(player);
-    while tag::issued(&rest, key, 0, 2) != 0 {
-        key[0] = key[0].wrapping_add(1);
-    }
+    let part = player.dice.between(1, MEMORY - 2);
+    let cut = player.dice.between(1, MEMORY - part - 1);
+    let left = MEMORY - part - cut;
+    let rest = Entry::direct(part + cut, left);
+    let any = worlds::key(player);
+    let key = found::key(any, |key| tag::issued(&rest, key, 0, 4) == 0);
     let world = worlds::dirty(player, 5, MEMORY as usize);
     player.begin(world);
     player.reset(key, 1);
-    player.create(0, part, 7);
+    let between = player.create(0, part, 7).second;
     player.read(0, 1, 0);
-    player.write(MEMORY - part - 1, 1, 0);
-    player.write(MEMORY - part, 1, 0);
+    player.create(between, cut, 7);
+    player.read(0, 1, 0);
+    player.write(left - 1, 1, 0);
+    player.write(left, 1, 0);
     player.derive(0, 0, 1, 4);
     player.hold(Operation::Lock, 0, 7);
     wild::play(player, 20);

@@ -1,13 +1,12 @@
-//! A number that comes back with its old tag while a child still names it: the nonce decides.
+//! A number that comes back with an old tag while a child still names it: the nonce decides. A tag comes
+//! back after another one only.
 
 use bridge::Operation;
 use session::entry::{self, Entry};
-use session::token;
 
+use super::found::{self, MEMORY};
 use crate::player::Player;
 use crate::{tag, wild, worlds};
-
-const MEMORY: u64 = 2_048;
 
 pub fn play(player: &mut Player) {
     root(player);
@@ -33,10 +32,10 @@ fn root(player: &mut Player) {
         return;
     }
     let revoked = Entry::direct(0, MEMORY);
-    let mut key = worlds::key(player);
-    while tag::issued(&revoked, key, 0, 3) != 0 || tag::issued(&revoked, key, 0, 2) == 0 {
-        key[0] = key[0].wrapping_add(1);
-    }
+    let any = worlds::key(player);
+    let key = found::key(any, |key| {
+        tag::issued(&revoked, key, 0, 3) == 0 && tag::issued(&revoked, key, 0, 2) != 0
+    });
     let world = worlds::dirty(player, 4, MEMORY as usize);
     player.begin(world);
     player.reset(key, 1);
@@ -47,8 +46,8 @@ fn root(player: &mut Player) {
     through(player, child);
 }
 
-/// A derived entry is freed while it has a child, and its number is given again, with a part of
-/// the root that is chosen so that the tag is the old one.
+/// A derived entry is freed while it has a child. Its number is given with another tag, freed, and
+/// given again, with a part of the root that is chosen so that the tag is the first one.
 fn freed(player: &mut Player, grandchild: bool) {
     worlds::reset(player, 3 + usize::from(grandchild), MEMORY as usize, 1);
     let first = player.derive(0, 0, 1_024, 7).first;
@@ -57,29 +56,16 @@ fn freed(player: &mut Player, grandchild: bool) {
         player.derive(child, 0, 256, 7);
     }
     player.simple(Operation::Drop, first);
-    let (tag, key) = (player.entry(1).get(entry::TAG), player.state().key);
+    let tag = player.entry(1).get(entry::TAG);
     player.simple(Operation::Drop, first);
-    let nonce = player.state().next_nonce;
-    if player.over() {
-        return;
-    }
-    if let Some((offset, length)) = part_with_tag(key, nonce, tag) {
-        player.derive(0, offset, length, 7);
-    }
+    let between = player.derive(0, 8, 1_024, 7).first;
+    through(player, child);
+    player.simple(Operation::Drop, between);
+    found::give(player, tag, false);
     through(player, child);
     if grandchild {
         let token = player.token(3);
         through(player, token);
     }
     player.simple(Operation::Drop, first);
-}
-
-/// A part of the root whose entry, issued with number 1 and this nonce, has the tag.
-fn part_with_tag(key: [u64; 2], nonce: u64, tag: u64) -> Option<(u64, u64)> {
-    let parent = token::packed(1, 0, 0, 0);
-    let parts = (1..MEMORY).flat_map(|length| (0..MEMORY - length).map(move |at| (at, length)));
-    parts.into_iter().find(|(offset, length)| {
-        let part = Entry::indirect(*offset, *length, parent);
-        tag::issued(&part, key, 1, nonce) == tag
-    })
 }

@@ -50,5 +50,6 @@ impl Shrinker<'_> {
         self.leave_out_givers();
         self.leave_out_several();
         self.simpler_entries();
+        self.simpler_free_entries();
     }
 }

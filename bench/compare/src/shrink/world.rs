@@ -164,6 +164,36 @@ impl Shrinker<'_> {
         }
     }
 
+    /// Of free entries the bytes beside the tag that they keep: zeros, or as many as may be.
+    pub fn simpler_free_entries(&mut self) {
+        let entries = self.draft.world.table.len() / SIZE;
+        let filled = (0..entries).filter(|number| {
+            let entry = self.entry(*number);
+            entry.is_free() && entry.kept_tag().is_none()
+        });
+        for number in filled.take(MANY).collect::<Vec<_>>() {
+            let entry = self.entry(number);
+            let tag = entry.get(entry::TAG);
+            if self.put(number, Entry::free(tag)) {
+                continue;
+            }
+            for place in 0..SIZE {
+                let mut entry = self.entry(number);
+                entry.0[place] = 0;
+                if entry != self.entry(number) && entry.get(entry::TAG) == tag {
+                    self.put(number, entry);
+                }
+            }
+        }
+    }
+
+    /// Takes the draft with another entry in its world.
+    fn put(&mut self, number: usize, entry: Entry) -> bool {
+        let mut draft = self.draft.clone();
+        entry.store(&mut draft.world.table, number);
+        self.take(draft)
+    }
+
     fn entry(&self, number: usize) -> Entry {
         Entry::of(&self.draft.world.table, number)
     }
@@ -171,9 +201,7 @@ impl Shrinker<'_> {
     fn lower_field(&mut self, number: usize, bits: Bits) {
         let entry = self.entry(number);
         for value in lower(entry.get(bits)) {
-            let mut draft = self.draft.clone();
-            entry.with(bits, value).store(&mut draft.world.table, number);
-            if self.take(draft) {
+            if self.put(number, entry.with(bits, value)) {
                 return;
             }
         }

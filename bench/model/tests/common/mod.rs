@@ -31,8 +31,9 @@ impl Rig {
 
     /// Serves one request, and sees to it that a refusal changes nothing and
     /// carries neither token nor number, that only a dump tells a length, that
-    /// leases stop accesses only, and that the total is corrected by what the
-    /// table shows.
+    /// leases stop accesses only, that the total is corrected by what the
+    /// table shows, and that a number freed keeps its tag and a number issued
+    /// gets another.
     pub fn ask_with(&mut self, request: Request, buffer: &mut [u8]) -> Answer {
         let before = (self.clone(), buffer.to_vec());
         let Rig { state, table, memory, leases, .. } = self;
@@ -43,6 +44,7 @@ impl Rig {
             assert_eq!((answer.first, answer.second, answer.dropped), (0, 0, 0));
         } else if request.operation != RESET {
             assert_eq!(self.state.total, before.0.corrected(self));
+            before.0.held(self);
         }
         assert_eq!(answer.place != 0, matches!(answer.refusal, 3 | 4));
         let dumped = request.operation == DUMP && answer.refusal == 0;
@@ -179,6 +181,25 @@ impl Rig {
         (self.state.total.saturating_sub(given) + freed).min(self.entries() as u64 - 1)
     }
 
+    /// 02, paper 5, of a granted request that leaves that table: "A freed entry
+    /// now keeps its tag, all else zero", and no issue gives the tag that "its
+    /// entry last held".
+    fn held(&self, left: &Rig) {
+        for number in (0..self.entries()).filter(|&n| self.entry(n) != left.entry(n)) {
+            if left.kind(number) == 0 {
+                assert_ne!(self.kind(number), 0);
+                assert_eq!(left.entry(number), freed(self.token(number)));
+            } else if self.kind(number) == 0 || self.nonce(number) != left.nonce(number) {
+                assert_ne!(self.tag(number), left.tag(number));
+            }
+        }
+    }
+
+    /// The 32 bytes of an entry.
+    pub fn entry(&self, number: usize) -> &[u8] {
+        &self.table[32 * number..32 * number + 32]
+    }
+
     pub fn kind(&self, number: usize) -> u64 {
         self.bits(number, 0, 3)
     }
@@ -248,6 +269,14 @@ impl Rig {
 /// 02, paper 4: "Loads and dumps count as accesses."
 pub fn is_access(operation: u64) -> bool {
     [READ, WRITE, FETCH, LOAD, DUMP].contains(&operation)
+}
+
+/// The 32 bytes that a token in encoding 0 leaves at its number when that is
+/// freed. 02, paper 5: "A freed entry now keeps its tag, all else zero."
+pub fn freed(token: u64) -> [u8; 32] {
+    let mut entry = [0; 32];
+    entry[26..28].copy_from_slice(&((token >> 46) as u16).to_be_bytes());
+    entry
 }
 
 /// The eight bytes of a lease on a token in encoding 0.

@@ -29,12 +29,15 @@ only: that two tags agree takes about 65,536 keys.
 
     --keys N     tries the first key words from 0 to N - 1; 1,000,000 if nothing is said
 
-For example, a revoke that passes over a nonce, since its tag would be the old one:
+For example, a derive that passes over a nonce, since its tag would be the one that the number last
+had:
 
     echo 'memory 64 entries 2
     reset key 0 0 nonce 1
-    revoke root            -> 0
-    = state nonce 3' | nb search -
+    derive root length 8 permissions RWX -> 0 as one
+    drop one                             -> 0
+    derive root length 8 permissions RWX -> 0
+    = state nonce 4' | nb search -
 
 The status is 0 if a key was found, 1 if none was.
 ";

@@ -12,11 +12,14 @@ use session::text::{number_text, Names};
 use session::token::Token;
 use session::World;
 
+/// So many kept tags are told.
+const KEPT: usize = 8;
+
 /// What stands, in words.
 #[derive(Clone, Debug, PartialEq, Eq)]
 pub struct Map {
-    /// Sizes, how many entries there are of each kind, and the state.
-    pub head: [(&'static str, String); 3],
+    /// Sizes, how many entries there are of each kind, the tags that free ones keep, and the state.
+    pub head: Vec<(&'static str, String)>,
     /// Segments in address order with gaps and what is derived, the end of memory, and then what has
     /// no place in memory.
     pub rows: Vec<Row>,
@@ -126,7 +129,7 @@ impl View<'_> {
         wanted.map(|(number, _)| number).collect()
     }
 
-    fn head(&self) -> [(&'static str, String); 3] {
+    fn head(&self) -> Vec<(&'static str, String)> {
         let state = &self.world.state;
         let kinds = [Kind::Segment, Kind::Derived].into_iter().chain(Kind::APART);
         let kinds = kinds.map(|kind| (self.all(Some(kind)).len(), kind.words()));
@@ -136,11 +139,29 @@ impl View<'_> {
         let next = self.next_number().map_or("none".to_string(), |next| format!("#{next}"));
         let (last, nonce) = (number_text(state.last_number), nonce_text(state.next_nonce));
         let total = self.total_text();
-        [
+        let mut head = vec![
             ("memory", format!("{} bytes", self.world.memory.len())),
             ("table", format!("{} entries: {}", self.judged.len(), counts.join(", "))),
-            ("state", format!("last number #{last} (next {next}), next nonce {nonce}, {total}")),
-        ]
+        ];
+        head.extend(self.kept_text().map(|kept| ("kept", kept)));
+        let state = format!("last number #{last} (next {next}), next nonce {nonce}, {total}");
+        head.push(("state", state));
+        head
+    }
+
+    /// The tags that free entries keep, the first of them; none if all are 0.
+    fn kept_text(&self) -> Option<String> {
+        let kept = self.all(None).into_iter().map(|number| (number, self.entry(number)));
+        let mut kept = kept.filter(|(_, entry)| entry.get(entry::TAG) != 0);
+        let first = kept.by_ref().take(KEPT).map(|(number, entry)| {
+            format!("{} tag {:#06x}", self.title(number), entry.get(entry::TAG))
+        });
+        let first: Vec<String> = first.collect();
+        let more = match kept.count() {
+            0 => String::new(),
+            more => format!(" and {more} more"),
+        };
+        (!first.is_empty()).then(|| format!("of free numbers: {}{more}", first.join("; ")))
     }
 
     /// The kept total, and what the table says where that is another.

@@ -64,7 +64,8 @@ fn parts_text() -> String {
     }
 }
 
-/// `entry NUMBER` with `free`, `bytes BYTES`, `direct FIELDS`, `indirect FIELDS` or fields alone.
+/// `entry NUMBER` with `free`, `free tag TAG`, `bytes BYTES`, `direct FIELDS`, `indirect FIELDS` or
+/// fields alone.
 fn entry_line(cursor: &mut Cursor, sizes: Sizes) -> Result<Standing, Error> {
     let entries = sizes.table / entry::SIZE;
     let Some(last) = entries.checked_sub(1) else {
@@ -92,9 +93,12 @@ pub fn whole_words() -> String {
     "'free'".to_string() + &types.collect::<String>()
 }
 
+/// Zeros, but for the tag that the entry keeps.
 fn whole_free(cursor: &mut Cursor) -> Result<EntryLine, Error> {
     cursor.next("'free'")?;
-    Ok(EntryLine::Whole(Entry::of_kind(entry::FREE)))
+    let kept = fields(cursor, |field| (field == Field::Tag).then_some(entry::TAG))?;
+    let tag = kept.first().map_or(0, |(_, tag)| *tag);
+    Ok(EntryLine::Whole(Entry::free(tag)))
 }
 
 fn whole_bytes(cursor: &mut Cursor) -> Result<EntryLine, Error> {

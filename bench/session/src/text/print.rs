@@ -6,7 +6,7 @@ use super::script::{Ask, EntryLine, Expected, Script, Sizes, Standing, Start};
 use super::state::{StatedState, STATE};
 use super::words::token_text;
 use super::{arguments, bytes, words};
-use crate::entry::{Entry, Field, Type, SIZE};
+use crate::entry::{Field, Type, SIZE};
 use crate::token::PARENT_ENCODING;
 use crate::world::Session;
 use bridge::{Argument, Buffer, Operation, Place, Reply};
@@ -328,8 +328,10 @@ fn entry_text(line: &EntryLine) -> String {
             return fields.iter().map(|(field, value)| field_text(*field, *value)).collect()
         }
     };
-    if *whole == Entry::default() {
-        return " free".to_string();
+    match whole.kept_tag() {
+        Some(0) => return " free".to_string(),
+        Some(tag) => return format!(" free{}", field_text(Field::Tag, tag)),
+        None => {}
     }
     let Some(own) = Type::of(whole.kind()) else {
         return format!(" bytes {}", bytes::text(&whole.0));

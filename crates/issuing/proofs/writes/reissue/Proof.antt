@@ -1,6 +1,8 @@
--- `issuing::writes::reissue` meets its contract: the entry is entered with its tag, and the next nonce moves.
+-- `issuing::writes::reissue` meets its contract: stored with what was found, under its number.
 -- Assumes nothing.
 use borrow.Author.Needs.{needs}
+use Rattle.layout.specs.Entry.{entryOf, wordsNumber}
+use Rattle.issuing.proofs.WriteLaws.{entered-left}
 use Rattle.issuing.proofs.writes.reissue.Statement.{statement}
 use Rattle.issuing.proofs.writes.reissue.Tie as tie
 
@@ -10,7 +12,9 @@ reissue-spec =
     (tie.spec
     (λ c. search needs)
     (λ c κs. search needs)
-    (λ c κs. search needs)
     (λ c. search needs)
     (λ c. search needs)
-    (λ c. let i = c .before .before .before in rw (i .enter .ensures .0, i .enter .ensures .1, i .before .before .tag-under .ensures)))
+    (λ c.
+    let i = c .before .before .before in
+    let a = i .before .before .before .before in
+    entered-left _ _ _ _ _ _ (entryOf (wordsNumber (a .args .w))) (a .args .anew) _ _ (a .pre .found) (a .pre .left) (i .enter .ensures .0) (i .enter .ensures .1)))

@@ -1,10 +1,9 @@
--- `layout::entry::free_words` meets its contract: both numbers are zero.
+-- `layout::entry::free_words` meets its contract: the tag stands above the 32 bits of the nonce.
 -- Assumes nothing.
-use mathlib.Core.Path.{refl}
-use Rattle.layout.specs.Entry.{entryNumber, wordsNumber}
+use borrow.Author.Needs.{needs}
+use Rattle.layout.proofs.EntryLaws.{free-words}
 use Rattle.layout.proofs.entry.free_words.Statement.{statement}
 use Rattle.layout.proofs.entry.free_words.Tie as tie
 
 pub free-words-spec : {M : Type 1} → statement M
-unfolding entryNumber wordsNumber
-free-words-spec = tie.close (tie.spec (λ c. refl))
+free-words-spec = tie.close (tie.spec (λ c. free-words (c .args .tag) (search needs)))

@@ -13,6 +13,7 @@ recounted-spec =
     (λ c κs. search needs)
     (λ c κs. search needs)
     (λ c κs. search needs)
+    (λ c κs. search needs)
     (λ c. recount-direct (c .before .before .before .args .w) _ _ (search needs) (search needs) (search needs) (c .before .match .keys1) (c .with-count .ensures))
     (λ c. recount-indirect (c .before .before .before .args .w) _ _ (search needs) (search needs) (search needs) (c .before .match .keys2) (c .with-count2 .ensures))
-    (λ c. other-words (c .before .before .before .args .w) _ (search needs) (c .before .match .rest .0 .1) (c .before .match .rest .1) refl (c .free-words .ensures)))
+    (λ c. other-words (c .before .before .before .before .args .w) _ (search needs) (c .before .before .match .rest .0 .1) (c .before .before .match .rest .1) refl (c .before .tag-of .ensures) (c .free-words .ensures)))

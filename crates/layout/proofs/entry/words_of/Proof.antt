@@ -3,7 +3,7 @@
 use mathlib.Core.Path.{refl, sym, _∙_}
 use borrow.Author.Needs.{needs}
 use Rattle.layout.specs.Entry.{wordsNumber}
-use Rattle.layout.proofs.EntryLaws.{number-as, pack-other}
+use Rattle.layout.proofs.EntryLaws.{as-free, number-as}
 use Rattle.layout.proofs.entry.words_of.Statement.{statement}
 use Rattle.layout.proofs.entry.words_of.Tie as tie
 
@@ -14,6 +14,7 @@ words-of-spec =
     (tie.spec
     (λ c κs. search needs)
     (λ c κs. search needs)
+    (λ c κs. search needs)
     (λ c. c .direct-words .ensures ∙ sym (number-as _ (c .before .match .keys1)))
     (λ c. c .indirect-words .ensures ∙ sym (number-as _ (c .before .match .keys2)))
-    (λ c. let e = c .before .args .e in sym (number-as e refl ∙ pack-other (e .kind) e (c .match .rest .0 .1) (c .match .rest .1))))
+    (λ c. c .free-words .ensures ∙ as-free (c .before .before .args .e) (c .before .match .rest .0 .1) (c .before .match .rest .1)))

@@ -12,7 +12,7 @@ use Rattle.machine.specs.Requests.{merge}
 use Rattle.table.specs.States.{stateAs}
 use Rattle.rulings.specs.Rulings.{checkedAs, tokensOn}
 use Rattle.rulings.specs.declared.reply.Checked.{Checked}
-use Rattle.rulings.proofs.RulingLaws.{request-stops, token-passes, token-stops}
+use Rattle.rulings.proofs.RulingLaws.{front-inner, front-request, front-token}
 use Rattle.merges.proofs.MergeLaws.{both-in, merge-request}
 use Rattle.merges.proofs.merge.check_merge.Statement.{statement}
 use Rattle.merges.proofs.merge.check_merge.Tie as tie
@@ -47,12 +47,12 @@ check-merge-spec =
     (λ c κs. search needs)
     (λ c.
     let r = c .before .before .before in
-    token-stops _ _ _ _ _ (asked (r .before .before .before .before) _ (r .before .if1 .taken)) (tokens r _ (c .before .r .given .1)))
+    front-token _ _ _ _ _ (asked (r .before .before .before .before) _ (r .before .if1 .taken)) (tokens r _ (c .before .r .given .1)))
     (λ c.
     let e = c .before in
     let r = e .before .before .before .before in
     let s = r .before .before .before .before in
     rw
-    (token-passes _ _ _ _ _ (asked s _ (r .before .if1 .taken)) (tokens r _ (e .before .before .enum-told .given .1)))
-    (c .neighbours .ensures _ _ _ _ _ _ (ap (λ (n : Named). n .number) (s .before .before .read .ensures)) (ap (λ (n : Named). n .number) (s .before .read2 .ensures)) (e .before .entry-at .ensures) (e .entry-at2 .ensures)))
-    (λ c. request-stops _ _ _ _ _ (asked (c .before .before .before) _ (c .if1 .left))))
+    (front-inner _ _ _ _ _ (asked s _ (r .before .if1 .taken)) (tokens r _ (e .before .before .enum-told .given .1)))
+    (c .neighbours .ensures _ _ _ _ _ _ _ (ap (λ (n : Named). n .number) (s .before .before .read .ensures)) (ap (λ (n : Named). n .number) (s .before .read2 .ensures)) (e .before .entry-at .ensures) (e .entry-at2 .ensures)))
+    (λ c. front-request _ _ _ _ _ (asked (c .before .before .before) _ (c .if1 .left))))

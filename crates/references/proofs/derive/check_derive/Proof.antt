@@ -13,7 +13,7 @@ use Rattle.checks.specs.Reached.{liveVerdict, Reaches}
 use Rattle.checks.specs.declared.reach.Reached.{Reached}
 use Rattle.checks.proofs.ReachLaws.{live-in}
 use Rattle.table.specs.States.{stateAs}
-use Rattle.rulings.proofs.RulingLaws.{request-stops, token-passes, token-stops}
+use Rattle.rulings.proofs.RulingLaws.{front-inner, front-request, front-token}
 use Rattle.references.proofs.DeriveLaws.{derive-limits, derive-request, derive-token}
 use Rattle.references.proofs.derive.check_derive.Statement.{statement}
 use Rattle.references.proofs.derive.check_derive.Tie as tie
@@ -44,8 +44,8 @@ check-derive-spec =
     (s .before .before .pre, (derive-limits _ _ _ _ _ _ _ _ (asked s _ (l .before .if1 .taken)), live-in _ _ _ (token l _ (c .enum-told .given .1) .0))))
     (λ c.
     let l = c .before .before .before in
-    token-stops _ _ _ _ _ (asked (l .before .before .before) _ (l .before .if1 .taken)) (derive-token _ _ _ _ _ _ _ _ (token l _ (c .before .r .given .1))))
+    front-token _ _ _ _ _ (asked (l .before .before .before) _ (l .before .if1 .taken)) (derive-token _ _ _ _ _ _ _ _ (token l _ (c .before .r .given .1))))
     (λ c.
     let l = c .before .before .before in
-    rw (token-passes _ _ _ _ _ (asked (l .before .before .before) _ (l .before .if1 .taken)) (derive-token _ _ _ _ _ _ _ _ (token l _ (c .before .enum-told .given .1) .0))) (c .check-part .ensures _ _))
-    (λ c. request-stops _ _ _ _ _ (asked (c .before .before) _ (c .if1 .left))))
+    rw (front-inner _ _ _ _ _ (asked (l .before .before .before) _ (l .before .if1 .taken)) (derive-token _ _ _ _ _ _ _ _ (token l _ (c .before .enum-told .given .1) .0))) (c .check-part .ensures _ _))
+    (λ c. front-request _ _ _ _ _ (asked (c .before .before) _ (c .if1 .left))))

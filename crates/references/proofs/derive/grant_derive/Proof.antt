@@ -15,4 +15,4 @@ grant-derive-spec =
     (λ c. omega (arith, derive-short _ _ _ _ _ _ _ _ (c .before .before .pre .1 .0) .1 .1))
     (λ c κs. let p = c .before .before .pre in rw (p .0) (derive-bears _ _ _ _ _ _ _ _ (p .1 .0) _ (p .1 .1)))
     (λ c. search needs)
-    (λ c. let g = c .before .before in derive-grants _ _ _ _ _ _ _ _ _ _ (g .before .before .before .pre .0) (g .grant-child .ensures)))
+    (λ c. let g = c .before .before in derive-grants _ _ _ _ _ _ _ _ _ (g .before .before .before .pre .0) (g .grant-child .ensures)))

@@ -13,7 +13,7 @@ use Rattle.checks.specs.Reached.{liveVerdict, Reaches}
 use Rattle.checks.specs.declared.reach.Reached.{Reached}
 use Rattle.checks.proofs.ReachLaws.{live-in}
 use Rattle.table.specs.States.{stateAs}
-use Rattle.rulings.proofs.RulingLaws.{request-stops, token-stops}
+use Rattle.rulings.proofs.RulingLaws.{front-request, front-token}
 use Rattle.references.proofs.ExecuteOnlyLaws.{execute-child, execute-limits, execute-request, execute-right, execute-token}
 use Rattle.references.proofs.execute_only.check_execute_only.Statement.{statement}
 use Rattle.references.proofs.execute_only.check_execute_only.Tie as tie
@@ -44,7 +44,7 @@ check-execute-only-spec =
     (λ c κs. let l = c .before .before .before .before .before in execute-limits _ _ _ _ _ (asked (l .before .before .before) _ (l .before .if1 .taken)))
     (λ c.
     let l = c .before .before .before in
-    token-stops _ _ _ _ _ (asked (l .before .before .before) _ (l .before .if1 .taken)) (execute-token _ _ _ _ _ (token l _ (c .before .r .given .1))))
+    front-token _ _ _ _ _ (asked (l .before .before .before) _ (l .before .if1 .taken)) (execute-token _ _ _ _ _ (token l _ (c .before .r .given .1))))
     (λ c.
     let w = c .before .before in
     let e = w .before in
@@ -59,4 +59,4 @@ check-execute-only-spec =
     let l = e .before .before .before in
     let s = l .before .before .before in
     execute-right _ _ _ _ _ _ (e .entry-at .result) _ (s .before .read .ensures) (e .entry-at .ensures) (w .within .ensures) (asked s _ (l .before .if1 .taken)) (token l _ (e .before .enum-told .given .1) .0) (c .if2 .left))
-    (λ c. request-stops _ _ _ _ _ (asked (c .before .before) _ (c .if1 .left))))
+    (λ c. front-request _ _ _ _ _ (asked (c .before .before) _ (c .if1 .left))))

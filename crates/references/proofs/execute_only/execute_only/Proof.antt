@@ -6,17 +6,17 @@ use lib.ListN.{length}
 use borrow.Author.Needs.{needs}
 use Rattle.machine.specs.Requests.{executeOnly}
 use Rattle.rulings.specs.Allotments.{Allots}
-use Rattle.rulings.specs.Rulings.{verdictOn}
+use Rattle.rulings.specs.Rulings.{frontOn}
 use Rattle.table.specs.States.{stateAs}
 use Rattle.rulings.specs.declared.allot.Allotted.{Allotted}
-use Rattle.rulings.proofs.RulingLaws.{decided-pass, decided-stop}
+use Rattle.rulings.proofs.RulingLaws.{decided-stop, front-decided, front-stop}
 use Rattle.references.proofs.execute_only.execute_only.Statement.{statement}
 use Rattle.references.proofs.execute_only.execute_only.Tie as tie
 
 -- what the checks come to
 checked : (c : tie.After-check-execute-only) (r : Allotted) → c .check-execute-only .result ≡ r
     → let a = c .before .before .before .before .args in
-    Allots (stateAs (a .s)) (a .table .now) r (verdictOn (length (a .memory .now)) (stateAs (a .s)) (a .table .now) (executeOnly (a .token) (a .encoding)) [])
+    Allots (stateAs (a .s)) (a .table .now) r (frontOn (length (a .memory .now)) (stateAs (a .s)) (a .table .now) (executeOnly (a .token) (a .encoding)) [])
 checked c r q = rw q at (c .check-execute-only .ensures)
 
 pub execute-only-spec : {M : Type 1} → statement M
@@ -29,9 +29,9 @@ execute-only-spec =
     (λ c. search needs)
     (λ c κs. checked (c .before .before .before .before) _ (c .before .before .r2 .given .1))
     (λ c. search needs)
-    (λ c. decided-stop _ _ _ _ _ _ _ (c .refused .ensures) (checked (c .before .before .before .before) _ (c .before .before .r .given .1)))
+    (λ c. decided-stop _ _ _ _ _ _ _ (c .refused .ensures) (front-stop _ _ _ _ _ (checked (c .before .before .before .before) _ (c .before .before .r .given .1))))
     (λ c. search needs)
     (λ c.
     let g = c .before .before in
     let r = g .before .before .before in
-    decided-pass _ _ _ _ _ _ (g .grant-execute-only .ensures) (checked (r .before .before) _ (r .r2 .given .1) .0)))
+    front-decided _ _ _ _ _ (checked (r .before .before) _ (r .r2 .given .1) .0) _ (g .grant-execute-only .ensures)))

@@ -16,4 +16,4 @@ grant-execute-only-spec =
     (λ c.
     let g = c .before .before in
     let e = g .before .before in
-    execute-grants _ _ _ _ _ _ (e .entry-at .result) _ (e .before .before .read .ensures) (e .entry-at .ensures) (g .grant-child .ensures)))
+    execute-grants _ _ _ _ _ (e .entry-at .result) _ (e .before .before .read .ensures) (e .entry-at .ensures) (g .grant-child .ensures)))

@@ -1,7 +1,7 @@
 -- `rulings::allot::allot` meets its contract: one law for each way out.
 -- Assumes nothing.
 use borrow.Author.Needs.{needs}
-use Rattle.rulings.proofs.AllotLaws.{allot-none, allot-pass, allot-spent}
+use Rattle.rulings.proofs.AllotLaws.{allot-none, allot-pass}
 use Rattle.rulings.proofs.allot.allot.Statement.{statement}
 use Rattle.rulings.proofs.allot.allot.Tie as tie
 
@@ -11,6 +11,4 @@ allot-spec =
     (tie.spec
     (λ c κs. search needs)
     (λ c. search (needs, allot-none))
-    (λ c. search needs)
-    (λ c. search (needs, allot-pass))
-    (λ c. search (needs, allot-spent)))
+    (λ c. search (needs, allot-pass)))

@@ -14,7 +14,7 @@ use Rattle.machine.specs.Line.{lineOf}
 use Rattle.machine.specs.Operations.{numberOf}
 use Rattle.machine.specs.Requests.{create}
 use Rattle.table.specs.States.{stateAs}
-use Rattle.rulings.proofs.RulingLaws.{request-stops, token-passes, token-stops}
+use Rattle.rulings.proofs.RulingLaws.{front-inner, front-request, front-token}
 use Rattle.segments.proofs.CreateLaws.{create-limits, create-request, create-token}
 use Rattle.segments.proofs.create.check_create.Statement.{statement}
 use Rattle.segments.proofs.create.check_create.Tie as tie
@@ -47,12 +47,12 @@ check-create-spec =
     (λ c κs. let i = c .before .before .before .before .before in create-limits _ _ _ _ _ _ _ _ _ (asked (i .before .before) _ (i .if1 .taken)))
     (λ c.
     let l = c .before .before .before in
-    token-stops _ _ _ _ _ (asked (l .before .before .before .before) _ (l .before .before .if1 .taken)) (create-token _ _ _ _ _ _ _ _ _ (token l _ (c .before .r .given .1))))
+    front-token _ _ _ _ _ (asked (l .before .before .before .before) _ (l .before .before .if1 .taken)) (create-token _ _ _ _ _ _ _ _ _ (token l _ (c .before .r .given .1))))
     (λ c.
     let e = c .before in
     let l = e .before .before .before in
     let s = l .before .before .before .before in
     rw
-    (token-passes _ _ _ _ _ (asked s _ (l .before .before .if1 .taken)) (create-token _ _ _ _ _ _ _ _ _ (token l _ (e .before .enum-told .given .1) .0)))
+    (front-inner _ _ _ _ _ (asked s _ (l .before .before .if1 .taken)) (create-token _ _ _ _ _ _ _ _ _ (token l _ (e .before .enum-told .given .1) .0)))
     (c .check-cut .ensures _ _ _ _ _ (rw (s .before .read .ensures) at (e .entry-at .ensures))))
-    (λ c. request-stops _ _ _ _ _ (asked (c .before .before) _ (c .if1 .left))))
+    (λ c. front-request _ _ _ _ _ (asked (c .before .before) _ (c .if1 .left))))

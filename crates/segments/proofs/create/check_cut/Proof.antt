@@ -17,11 +17,10 @@ check-cut-spec =
     (λ c m k u x d here. search (needs, cut-bounds))
     (λ c m k u x d here. search (needs, cut-standing))
     (λ c κs. search needs)
-    (λ c κs. (c .before .before .before .before .before .before .before .before .before .before .before .pre .0, c .nonces .ensures .1))
     (λ c m k u x d here.
-    let i = c .before .before in
+    let i = c .before in
     let b = i .before .before .before in
     let w = b .before .before in
     rw
-    (cut-allot m _ _ k u _ x _ d _ here (w .before .if1 .left) _ (w .within .ensures) (b .before .if2 .left) (b .if3 .left) (i .if4 .left) _ (c .before .nonces .ensures .0))
+    (cut-allot m _ _ k u _ x _ d _ here (w .before .if1 .left) _ (w .within .ensures) (b .before .if2 .left) (b .if3 .left) (i .if4 .left))
     (c .allot .ensures)))

@@ -1,11 +1,10 @@
 -- `segments::revoke::check_revoke` meets its contract: a law for each way out.
 -- Assumes nothing.
-use mathlib.Core.Path.{_≡_, sym, _∙_, ap}
+use mathlib.Core.Path.{_≡_, sym, _∙_}
 use mathlib.Core.Bool.{Bool, _&&_}
 use mathlib.Core.List.{[]}
 use borrow.Author.Needs.{needs}
 use lib.Dec.{eqb, leb}
-use Rattle.tokens.specs.declared.token.Named.{Named}
 use Rattle.checks.specs.Holds.{requestHolds}
 use Rattle.checks.specs.Reached.{liveVerdict, Reaches}
 use Rattle.checks.specs.declared.reach.Reached.{Reached}
@@ -14,8 +13,8 @@ use Rattle.machine.specs.Line.{lineOf}
 use Rattle.machine.specs.Operations.{numberOf}
 use Rattle.machine.specs.Requests.{revoke}
 use Rattle.table.specs.States.{stateAs}
-use Rattle.rulings.proofs.RulingLaws.{request-stops, token-passes, token-stops}
-use Rattle.segments.proofs.RevokeLaws.{revoke-next, revoke-request, revoke-token}
+use Rattle.rulings.proofs.RulingLaws.{front-request, front-token}
+use Rattle.segments.proofs.RevokeLaws.{revoke-direct, revoke-kind, revoke-request, revoke-token}
 use Rattle.segments.proofs.revoke.check_revoke.Statement.{statement}
 use Rattle.segments.proofs.revoke.check_revoke.Tie as tie
 
@@ -40,15 +39,17 @@ check-revoke-spec =
     (λ c. search needs)
     (λ c. search needs)
     (λ c κs. let l = c .before .before in rw (l .before .before .before .before .read .ensures) (live-in _ _ _ (token l _ (c .enum-told .given .1) .0)))
-    (λ c κs. let i = c .before .before .before .before in revoke-next _ _ _ _ _ (asked (i .before .before) _ (i .if1 .taken)))
     (λ c.
     let l = c .before .before .before in
-    token-stops _ _ _ _ _ (asked (l .before .before .before) _ (l .before .if1 .taken)) (revoke-token _ _ _ _ _ (token l _ (c .before .r .given .1))))
+    sym (front-token _ _ _ _ _ (asked (l .before .before .before) _ (l .before .if1 .taken)) (revoke-token _ _ _ _ _ (token l _ (c .before .r .given .1)))))
     (λ c.
-    let e = c .before in
+    let e = c .before .before in
     let l = e .before .before .before in
     let s = l .before .before .before in
-    rw
-    (token-passes _ _ _ _ _ (asked s _ (l .before .if1 .taken)) (revoke-token _ _ _ _ _ (token l _ (e .before .enum-told .given .1) .0)))
-    (c .seek .ensures _ _ _ _ (ap (λ (n : Named). n .number) (s .before .read .ensures)) (e .entry-at .ensures)))
-    (λ c. request-stops _ _ _ _ _ (asked (c .before .before) _ (c .if1 .left))))
+    sym (revoke-direct _ _ _ _ _ _ _ (s .before .read .ensures) (e .entry-at .ensures) (asked s _ (l .before .if1 .taken)) (token l _ (e .before .enum-told .given .1) .0) (c .if2 .taken)))
+    (λ c.
+    let e = c .before .before in
+    let l = e .before .before .before in
+    let s = l .before .before .before in
+    sym (revoke-kind _ _ _ _ _ _ _ (s .before .read .ensures) (e .entry-at .ensures) (asked s _ (l .before .if1 .taken)) (token l _ (e .before .enum-told .given .1) .0) (c .if2 .left)))
+    (λ c. sym (front-request _ _ _ _ _ (asked (c .before .before) _ (c .if1 .left)))))
