@@ -16,7 +16,7 @@ extern "C" {
 #endif
 
 /* The interface's version. It is raised with every change that a caller can see. */
-#define NORTHBRIDGE_VERSION 6
+#define NORTHBRIDGE_VERSION 7
 
 /* Sizes in bytes. All words have 64 bits, the low byte first. */
 #define NORTHBRIDGE_REQUEST_SIZE 64
@@ -53,6 +53,8 @@ extern "C" {
  *     12 revoke         token, encoding
  *     13 load           token, second: the minute; task; what the buffer's text says goes to the segment
  *     14 dump           token, second: the minute; task; the segment goes to the buffer's front as text
+ *     15 page out       token, second: the page-file number; task, encoding; the segment goes to the buffer
+ *     16 page in        token, second: the donor's token; task, encoding; the buffer goes to the donor's segment
  *
  * The text of a load and of a dump is Intel HEX with records of the types 00, 01 and 04, each ending in a line feed.
  */
@@ -82,7 +84,9 @@ enum northbridge_operation {
     NORTHBRIDGE_UNLOCK = 11,
     NORTHBRIDGE_REVOKE = 12,
     NORTHBRIDGE_LOAD = 13,
-    NORTHBRIDGE_DUMP = 14
+    NORTHBRIDGE_DUMP = 14,
+    NORTHBRIDGE_PAGE_OUT = 15,
+    NORTHBRIDGE_PAGE_IN = 16
 };
 
 enum northbridge_permission {
@@ -117,9 +121,9 @@ enum northbridge_refusal {
     NORTHBRIDGE_ILL_FORMED = 3,  /* an entry met is ill-formed */
     NORTHBRIDGE_DEAD = 4,        /* the line is dead */
     NORTHBRIDGE_LOCKED = 5,      /* locked for another task */
-    NORTHBRIDGE_KIND = 6,        /* create, merge, revoke of an indirect entry */
+    NORTHBRIDGE_KIND = 6,        /* create, merge, revoke, page out of an indirect entry; page in of one not paged, or with a donor not direct */
     NORTHBRIDGE_RIGHT = 7,       /* a permission, X or Lockable is lacking */
-    NORTHBRIDGE_BOUNDS = 8,      /* outside the segment, derive's sum, or not neighbours in order */
+    NORTHBRIDGE_BOUNDS = 8,      /* outside the segment, derive's sum, not neighbours in order, or not of equal length */
     NORTHBRIDGE_STANDING = 9,    /* locked, or the count forbids it */
     NORTHBRIDGE_NO_NUMBER = 10,  /* no free number */
     NORTHBRIDGE_NO_NONCE = 11,   /* too few nonces */
@@ -127,7 +131,8 @@ enum northbridge_refusal {
     NORTHBRIDGE_CHECKSUM = 13,   /* a record's checksum is wrong */
     NORTHBRIDGE_NO_ROOM = 14,    /* a dump's text is longer than the buffer, or than 65,536 bytes */
     NORTHBRIDGE_CLOSED = 15,     /* the token has leases, and none of them is open at that minute */
-    NORTHBRIDGE_BAD_LEASE = 16   /* a lease's minutes are equal, or one is beyond the week */
+    NORTHBRIDGE_BAD_LEASE = 16,  /* a lease's minutes are equal, or one is beyond the week */
+    NORTHBRIDGE_PAGED = 17       /* the entry is paged out: it can only be paged in */
 };
 
 /*
@@ -140,17 +145,18 @@ enum northbridge_refusal {
  *     table     2 to 1,024 entries of 32 bytes
  *     memory    1 to 16,777,216 bytes
  *     buffer    what a read or fetch fills and a write stores, 1 to 4,096 bytes; the text that a load reads, at most 65,536 bytes; a
- *               dump's output, of any length, at whose front its text is written; no other request looks at it
+ *               dump's output, of any length, at whose front its text is written; what a page out fills and a page in stores, as
+ *               many bytes as the segment has; no other request looks at it
  *     answer    48 bytes
  *
  * What the caller must see to: each slice has as many bytes as its length says; no two slices overlap; and nothing else reads or writes
- * them during the call, except that others may read the request and the buffer of a write or a load, which are only read. Nothing is asked
- * of the bytes, nor of the lengths: any bytes and any lengths have a defined answer.
+ * them during the call, except that others may read the request and the buffer of a write, a load or a page in, which are only read.
+ * Nothing is asked of the bytes, nor of the lengths: any bytes and any lengths have a defined answer.
  *
  * The proof is about slices, and a slice has a pointer that is not null. The compiled code does not look at a slice of length 0, so that a
  * null pointer with length 0 is answered as an empty slice. A null pointer with another length is a slice that is not there: a fault.
  *
- * A refused request changes nothing but the answer. An operation above 14, or a request, state or answer of another length, is refusal 1;
+ * A refused request changes nothing but the answer. An operation above 16, or a request, state or answer of another length, is refusal 1;
  * an answer of another length is then left as it was.
  */
 uint64_t northbridge_serve(
@@ -246,7 +252,7 @@ static inline void northbridge_put_word(uint8_t *slice, size_t i, uint64_t word)
 }
 
 /*
- * How many numbers create, derive and execute-only can still give. It is a word of the state: this calls nothing and does not look at the
+ * How many numbers create, derive, execute-only and page out can still give. It is a word of the state: this calls nothing and does not look at the
  * table. From a reset on it is what a count of the table would give.
  */
 static inline uint64_t northbridge_free_total(const struct northbridge *bridge)
@@ -491,6 +497,35 @@ static inline struct northbridge_answer northbridge_dump(
     return northbridge_ask(bridge, &request, buffer, length);
 }
 
+/*
+ * A segment's bytes go to the buffer, which is as long, and its entry is paged out: from then on it is for northbridge_page_in alone. The
+ * segment becomes zeros, with all rights, under a number of its own. The page-file number is the caller's, who keeps the bytes; the
+ * machine keeps it in the entry. First: the entry's new token; second: that of the segment.
+ */
+static inline struct northbridge_answer northbridge_page_out(
+    struct northbridge *bridge, uint64_t token, uint64_t page_file, uint64_t task, void *buffer, size_t length, uint64_t encoding)
+{
+    struct northbridge_request request = northbridge_request_of(NORTHBRIDGE_PAGE_OUT, token);
+    northbridge_set(&request, NORTHBRIDGE_SECOND, page_file);
+    northbridge_set(&request, NORTHBRIDGE_TASK, task);
+    northbridge_set(&request, NORTHBRIDGE_ENCODING, encoding);
+    return northbridge_ask(bridge, &request, buffer, length);
+}
+
+/*
+ * The bytes, which are only read, go to the segment of the donor, as long, unlocked and at count 0. It becomes the paged entry's, and the
+ * donor's number is freed. First: the entry's new token.
+ */
+static inline struct northbridge_answer northbridge_page_in(
+    struct northbridge *bridge, uint64_t token, uint64_t donor, uint64_t task, const void *bytes, size_t length, uint64_t encoding)
+{
+    struct northbridge_request request = northbridge_request_of(NORTHBRIDGE_PAGE_IN, token);
+    northbridge_set(&request, NORTHBRIDGE_SECOND, donor);
+    northbridge_set(&request, NORTHBRIDGE_TASK, task);
+    northbridge_set(&request, NORTHBRIDGE_ENCODING, encoding);
+    return northbridge_ask(bridge, &request, (void *)(uintptr_t)bytes, length);
+}
+
 /* ---- Tokens. Any 64-bit word is some token's. */
 
 /* This word names a number beyond every table: each request that names an entry by it is refused. */
@@ -571,7 +606,7 @@ static inline const char *northbridge_refusal_text(uint64_t refusal)
     case NORTHBRIDGE_ILL_FORMED: return "ill-formed";
     case NORTHBRIDGE_DEAD: return "dead line";
     case NORTHBRIDGE_LOCKED: return "locked for another task";
-    case NORTHBRIDGE_KIND: return "not a direct entry";
+    case NORTHBRIDGE_KIND: return "wrong kind of entry";
     case NORTHBRIDGE_RIGHT: return "right lacking";
     case NORTHBRIDGE_BOUNDS: return "out of bounds";
     case NORTHBRIDGE_STANDING: return "standing forbids it";
@@ -582,6 +617,7 @@ static inline const char *northbridge_refusal_text(uint64_t refusal)
     case NORTHBRIDGE_NO_ROOM: return "no room for the output";
     case NORTHBRIDGE_CLOSED: return "closed";
     case NORTHBRIDGE_BAD_LEASE: return "bad lease";
+    case NORTHBRIDGE_PAGED: return "paged out";
     default: return "no refusal of the interface";
     }
 }

@@ -122,6 +122,44 @@ static void texts_of_segments(void)
     CHECK(northbridge_dump(&b, made.first, 0, NULL, 0).refusal == NORTHBRIDGE_NO_ROOM);
 }
 
+/* A segment out, with every byte, and in again at a donor's place. */
+static void paging(void)
+{
+    struct northbridge b = begun();
+    static const char record[] = "A4711 093.5 "; /* a page in only reads it */
+    const size_t length = sizeof record - 1;
+    const uint64_t all = NORTHBRIDGE_R | NORTHBRIDGE_W | NORTHBRIDGE_X, file = (uint64_t)1 << 32;
+    struct northbridge_answer made = northbridge_create(&b, 0, 0, length, 77, NORTHBRIDGE_R, 0), out, other, back;
+    uint64_t donor;
+    uint8_t disk[16];
+    memcpy(memory, record, length);
+    memset(disk, 0xa5, sizeof disk);
+    CHECK(northbridge_page_out(&b, made.first, file, 0, disk, length - 1, 0).refusal == NORTHBRIDGE_BOUNDS);
+    CHECK(northbridge_page_out(&b, made.first, file, 0, disk, length + 1, 0).refusal == NORTHBRIDGE_BOUNDS);
+    CHECK(northbridge_page_out(&b, made.first, file, 0, NULL, length, 0).refusal == NORTHBRIDGE_BOUNDS && disk[0] == 0xa5);
+    out = northbridge_page_out(&b, made.first, file, 9, disk, length, 3);
+    CHECK(out.refusal == 0 && !memcmp(disk, record, length) && disk[length] == 0xa5 && memory[0] == 0 && memory[length - 1] == 0);
+    CHECK(northbridge_fields_of(out.first).number == 1 && northbridge_fields_of(out.second).number == 2);
+    CHECK(northbridge_fields_of(out.first).encoding == 3 && northbridge_fields_of(out.second).encoding == 3);
+    CHECK(northbridge_read(&b, made.first, 0, disk, 1).refusal == NORTHBRIDGE_NO_ENTRY);
+    CHECK(northbridge_read(&b, out.first, 0, disk, 1).refusal == NORTHBRIDGE_PAGED);
+    CHECK(northbridge_clone(&b, out.first).refusal == NORTHBRIDGE_PAGED && northbridge_free_total(&b) == 5);
+    CHECK(northbridge_page_in(&b, out.first, out.first, 0, record, length, 0).refusal == NORTHBRIDGE_KIND);
+    CHECK(northbridge_page_in(&b, out.second, out.first, 0, record, length, 0).refusal == NORTHBRIDGE_KIND);
+    CHECK(northbridge_page_in(&b, out.first, made.second, 0, record, length, 0).refusal == NORTHBRIDGE_BOUNDS);
+    CHECK(northbridge_page_in(&b, out.first, out.second, 0, record, length - 1, 0).refusal == NORTHBRIDGE_BOUNDS);
+    CHECK(northbridge_clone(&b, out.second).refusal == 0);
+    CHECK(northbridge_page_in(&b, out.first, out.second, 0, record, length, 0).refusal == NORTHBRIDGE_STANDING);
+    other = northbridge_create(&b, made.second, 0, length, 0, all, 0);
+    donor = other.first;
+    back = northbridge_page_in(&b, out.first, donor, 0, record, length, 1);
+    CHECK(back.refusal == 0 && back.second == 0 && northbridge_fields_of(back.first).number == 1);
+    CHECK(northbridge_fields_of(back.first).encoding == 1 && !memcmp(memory + length, record, length) && memory[0] == 0);
+    CHECK(northbridge_read(&b, donor, 0, disk, 1).refusal == NORTHBRIDGE_NO_ENTRY && northbridge_free_total(&b) == 5);
+    CHECK(northbridge_read(&b, back.first, 0, disk, length).refusal == 0 && !memcmp(disk, record, length));
+    CHECK(northbridge_write(&b, back.first, 0, record, 1).refusal == NORTHBRIDGE_RIGHT); /* the rights came back with it */
+}
+
 /* The free total after each operation that gives a number or frees one, and after the others. */
 static void free_totals(void)
 {
@@ -283,13 +321,14 @@ static void refused(void)
     struct northbridge b = begun();
     uint8_t buffer[1] = {0};
     uint64_t operation;
-    for (operation = NORTHBRIDGE_READ; operation <= NORTHBRIDGE_DUMP; operation++) {
+    for (operation = NORTHBRIDGE_READ; operation <= NORTHBRIDGE_PAGE_IN; operation++) {
         struct northbridge_request request = northbridge_request_of(operation, NORTHBRIDGE_NO_TOKEN);
         northbridge_set(&request, NORTHBRIDGE_TASK, 1);
         northbridge_set(&request, NORTHBRIDGE_LENGTH, 1);
         CHECK(northbridge_ask(&b, &request, buffer, 1).refusal != 0);
     }
     CHECK(northbridge_merge(&b, 0, NORTHBRIDGE_NO_TOKEN, 0, 0).refusal != 0);
+    CHECK(northbridge_page_in(&b, 0, NORTHBRIDGE_NO_TOKEN, 0, buffer, 1, 0).refusal != 0);
     CHECK(northbridge_read(&b, NORTHBRIDGE_NO_TOKEN, 0, buffer, 1).refusal == NORTHBRIDGE_NO_ENTRY);
     CHECK(northbridge_read(&b, 0, 0, NULL, 0).refusal == NORTHBRIDGE_BAD_REQUEST);
     CHECK(northbridge_read(&b, 0, 0, NULL, 1).refusal == NORTHBRIDGE_BAD_REQUEST);
@@ -304,7 +343,7 @@ static void refused(void)
 static void texts(void)
 {
     uint64_t refusal;
-    for (refusal = 0; refusal <= NORTHBRIDGE_BAD_LEASE + 1; refusal++) {
+    for (refusal = 0; refusal <= NORTHBRIDGE_PAGED + 1; refusal++) {
         printf("%d %s\n", (int)refusal, northbridge_refusal_text(refusal));
     }
     printf("version %d\n", NORTHBRIDGE_VERSION);
@@ -315,6 +354,7 @@ int main(void)
     fifteen_cases();
     operations();
     texts_of_segments();
+    paging();
     free_totals();
     tokens();
     leases_as_bytes();

@@ -57,7 +57,7 @@ int main(void)
     ask(NORTHBRIDGE_READ, 0);
     if (serve(0) != NORTHBRIDGE_GRANTED) return fail("not granted", 1, 0);
     /* Whatever else is null, a missing part is refused and nothing is written but an answer. */
-    for (operation = 0; operation <= 16; operation++) {
+    for (operation = 0; operation <= 18; operation++) {
         for (nulls = 1; nulls < 1 << SLICES; nulls++) {
             if (!(nulls & needed)) continue;
             ask(operation, 1);
@@ -66,7 +66,8 @@ int main(void)
             if (memcmp(before, bytes, ANSWER * sizeof bytes[0])) return fail("bytes changed", operation, nulls);
         }
     }
-    /* Without a buffer an access is refused; a load's text has no ending, a dump's no room; the others are served. */
+    /* Without a buffer an access is refused; a load's text has no ending, a dump's no room, and no segment is so short that it could be paged
+     * out; the others are served. */
     for (operation = NORTHBRIDGE_READ; operation <= NORTHBRIDGE_FETCH; operation++) {
         ask(operation, 1);
         if (serve(1 << BUFFER) != NORTHBRIDGE_BAD_REQUEST) return fail("not refusal 1", operation, 1 << BUFFER);
@@ -75,6 +76,10 @@ int main(void)
     if (serve(1 << BUFFER) != NORTHBRIDGE_MALFORMED) return fail("not refusal 12", NORTHBRIDGE_LOAD, 1 << BUFFER);
     ask(NORTHBRIDGE_DUMP, 1);
     if (serve(1 << BUFFER) != NORTHBRIDGE_NO_ROOM) return fail("not refusal 14", NORTHBRIDGE_DUMP, 1 << BUFFER);
+    ask(NORTHBRIDGE_PAGE_OUT, 1);
+    if (serve(1 << BUFFER) != NORTHBRIDGE_BOUNDS) return fail("not refusal 8", NORTHBRIDGE_PAGE_OUT, 1 << BUFFER);
+    ask(NORTHBRIDGE_PAGE_IN, 1);
+    if (serve(1 << BUFFER) != NORTHBRIDGE_KIND) return fail("not refusal 6", NORTHBRIDGE_PAGE_IN, 1 << BUFFER);
     ask(NORTHBRIDGE_LOCK, 1);
     if (serve(1 << BUFFER) != NORTHBRIDGE_GRANTED) return fail("not granted", NORTHBRIDGE_LOCK, 1 << BUFFER);
     /* Leases: none, one of the root's from minute 1 up to minute 2, a bad one, and a part of one. A lock looks at their length alone. */

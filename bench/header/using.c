@@ -346,6 +346,44 @@ static void shifts(void)
     CHECK(read_one(&b, card, 0) == 0);
 }
 
+/* A segment that nobody uses goes out, and comes back to another place with the rights that it had. */
+static void paging(void)
+{
+    struct northbridge b = begun(ENTRIES);
+    static uint8_t whole[sizeof memory - 100];
+    uint8_t disk[100];
+    uint64_t idle, child, n;
+    struct northbridge_answer cut = northbridge_create(&b, 0, 0, sizeof disk, 5, NORTHBRIDGE_R, 0), out, donor;
+    memset(memory, 7, 300);
+    idle = cut.first;
+    child = northbridge_derive(&b, idle, 0, 10, NORTHBRIDGE_R, 0).first;
+    CHECK(northbridge_page_out(&b, idle, 9, 0, disk, sizeof disk, 0).refusal == NORTHBRIDGE_STANDING); /* it has references */
+    CHECK(northbridge_page_out(&b, child, 9, 0, disk, 10, 0).refusal == NORTHBRIDGE_KIND);
+    CHECK(northbridge_drop(&b, child).dropped == 1);
+    CHECK(northbridge_lock(&b, cut.second, HOLDER).refusal == 0);
+    CHECK(northbridge_page_out(&b, cut.second, 9, OTHER, disk, 1, 0).refusal == NORTHBRIDGE_LOCKED);
+    CHECK(northbridge_page_out(&b, cut.second, 9, HOLDER, whole, sizeof whole, 0).refusal == NORTHBRIDGE_STANDING); /* not even for its holder */
+    CHECK(northbridge_unlock(&b, cut.second, HOLDER).refusal == 0);
+    CHECK(northbridge_page_out(&b, idle, 9, 0, disk, sizeof disk - 1, 0).refusal == NORTHBRIDGE_BOUNDS);
+    n = northbridge_free_total(&b);
+    out = northbridge_page_out(&b, idle, 9, 0, disk, sizeof disk, 0); /* needs no right */
+    CHECK(out.refusal == 0 && disk[0] == 7 && disk[99] == 7 && memory[0] == 0 && memory[99] == 0 && memory[100] == 7);
+    CHECK(northbridge_free_total(&b) == n - 1);
+    CHECK(read_one(&b, idle, 0) == NORTHBRIDGE_NO_ENTRY && read_one(&b, out.first, 0) == NORTHBRIDGE_PAGED);
+    CHECK(read_one(&b, out.first + ((uint64_t)1 << 46), 0) == NORTHBRIDGE_NO_ENTRY); /* another tag */
+    CHECK(northbridge_revoke(&b, out.first, 0).refusal == NORTHBRIDGE_PAGED && northbridge_drop(&b, out.first).refusal == NORTHBRIDGE_PAGED);
+    CHECK(northbridge_write(&b, out.second, 0, disk, 1).refusal == 0 && northbridge_fetch(&b, out.second, 0, byte, 1).refusal == 0);
+    donor = northbridge_create(&b, cut.second, 0, sizeof disk, 6, NORTHBRIDGE_X, 0);
+    CHECK(northbridge_page_in(&b, out.first, out.first, 0, disk, sizeof disk, 0).refusal == NORTHBRIDGE_KIND);
+    CHECK(northbridge_page_in(&b, donor.first, out.second, 0, disk, sizeof disk, 0).refusal == NORTHBRIDGE_KIND);
+    CHECK(northbridge_page_in(&b, out.first, donor.second, 0, disk, sizeof disk, 0).refusal == NORTHBRIDGE_BOUNDS);
+    disk[0] = 8; /* what the caller brings is what is there then */
+    idle = northbridge_page_in(&b, out.first, donor.first, 0, disk, sizeof disk, 0).first;
+    CHECK(read_one(&b, idle, 0) == 0 && byte[0] == 8 && memory[100] == 8 && memory[199] == 7);
+    CHECK(northbridge_write(&b, idle, 0, disk, 1).refusal == NORTHBRIDGE_RIGHT); /* its rights, not the donor's */
+    CHECK(read_one(&b, donor.first, 0) == NORTHBRIDGE_NO_ENTRY && read_one(&b, out.first, 0) == NORTHBRIDGE_NO_ENTRY);
+}
+
 /* Children up to 1,023 in a line. */
 static void longest_line(void)
 {
@@ -408,6 +446,7 @@ int main(void)
     free_totals();
     images();
     shifts();
+    paging();
     longest_line();
     nonces();
     kept_tags();

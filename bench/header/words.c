@@ -98,6 +98,8 @@ int main(void)
     check(northbridge_revoke(&b, token, code), 12, encoded, 0, "revoke");
     check(northbridge_load(&b, token, task, buffer, sizeof buffer), 13, by_task, 1, "load");
     check(northbridge_dump(&b, token, task, buffer, sizeof buffer), 14, by_task, 1, "dump");
+    check(northbridge_page_out(&b, token, second, task, buffer, sizeof buffer, code), 15, merge, 1, "page out");
+    check(northbridge_page_in(&b, token, second, task, buffer, sizeof buffer, code), 16, merge, 1, "page in");
     by_shifts = 1; /* the minute stands in the five that bring one; all others are as they were */
     northbridge_lend_leases(&b, leases, sizeof leases);
     northbridge_at_minute(&b, minute);
@@ -116,7 +118,9 @@ int main(void)
     check(northbridge_revoke(&b, token, code), 12, encoded, 0, "revoke, with leases");
     check(northbridge_load(&b, token, task, buffer, sizeof buffer), 13, at_minute, 1, "load at a minute");
     check(northbridge_dump(&b, token, task, buffer, sizeof buffer), 14, at_minute, 1, "dump at a minute");
-    if (b.state[0] != 30) {
+    check(northbridge_page_out(&b, token, second, task, buffer, sizeof buffer, code), 15, merge, 1, "page out, with leases");
+    check(northbridge_page_in(&b, token, second, task, buffer, sizeof buffer, code), 16, merge, 1, "page in, with leases");
+    if (b.state[0] != 34) {
         printf("header/words.c: the state is not the one that was lent\n");
         failures++;
     }

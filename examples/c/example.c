@@ -1,6 +1,7 @@
 /*
  * A hook station's card writes a record of twelve bytes, the weigher's task holds it, and another card tries to read it; then a card's
- * firmware is loaded, a batch of windows is given, and a card is bound to its shift. From the repository's root:
+ * firmware is loaded, a batch of windows is given, a card is bound to its shift, and an idle segment goes to the disk. From the
+ * repository's root:
  *
  *     ./build-library
  *     cc -Iinclude examples/c/example.c -Ltarget/staticlib -lnorthbridge -o target/example && target/example
@@ -51,6 +52,7 @@ int main(void)
     said("the card writes", northbridge_write(&bridge, card, 0, record, sizeof record));
     said("drop", northbridge_drop(&bridge, card));
     said("read", northbridge_read(&bridge, northbridge_at(records, 36), 0, seen, sizeof seen));
+    int left = seen[0]; /* nothing: they are zeros */
 
     /* A card's firmware comes as Intel HEX, and goes into the card's buffer whole or not at all. A dump is such text again. */
     uint64_t buffer = said("derive", northbridge_derive(&bridge, records, 0, 5, NORTHBRIDGE_R | NORTHBRIDGE_W, 0)).first;
@@ -82,5 +84,16 @@ int main(void)
     said("station 6 at 14:00, which has no lease", northbridge_write(&bridge, window[6], 0, record, sizeof record));
     northbridge_at_minute(&bridge, northbridge_minute_of(5, 9, 0));
     said("station 5 on Saturday", northbridge_write(&bridge, window[5], 0, record, sizeof record));
-    return seen[0];
+
+    /* An idle segment goes out: its bytes to the disk, as page 1, and its memory to whoever needs it. It comes back to any segment as long. */
+    static uint8_t disk[4096];
+    northbridge_lend_leases(&bridge, NULL, 0); /* no shifts any more */
+    records = said("revoke", northbridge_revoke(&bridge, records, 0)).first;
+    said("write", northbridge_write(&bridge, records, 0, record, sizeof record));
+    struct northbridge_answer out = said("page out", northbridge_page_out(&bridge, records, 1, 0, disk, sizeof disk, 0));
+    said("read while it is out", northbridge_read(&bridge, out.first, 0, seen, sizeof seen));
+    records = said("page in", northbridge_page_in(&bridge, out.first, out.second, 0, disk, sizeof disk, 0)).first;
+    said("read", northbridge_read(&bridge, records, 0, seen, sizeof seen));
+    printf("%s\n", seen);
+    return left || seen[0] != record[0];
 }

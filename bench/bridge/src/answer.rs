@@ -21,9 +21,10 @@ pub struct Reply {
 /// What a granted request gives. The word 0 stands where it gives none, and is also the root's token.
 #[derive(Clone, Copy, Debug, Default, PartialEq, Eq)]
 pub struct Granted {
-    /// A create's part, a merge's whole, a child, a revoked segment's new token.
+    /// A create's part, a merge's whole, a child, a revoked segment's new token, and that of an entry
+    /// that was paged out or in.
     pub first: Token,
-    /// A create's rest, if there is one.
+    /// A create's rest, if there is one; the segment's that a page-out leaves behind.
     pub second: Token,
     /// Drop's number: 1 if the count fell to 0, else 0.
     pub dropped: u64,

@@ -1,6 +1,6 @@
 //! The library's two functions, over slices of bytes.
 
-/// A buffer as a pointer and a length: a write and a load only read theirs.
+/// A buffer as a pointer and a length: a write, a load and a page-in only read theirs.
 pub type Buffer = (*mut u8, usize);
 
 /// `northbridge_serve` over slices of any lengths. It returns the refusal.
@@ -38,7 +38,7 @@ pub fn call_leased(
 ///
 /// # Safety
 /// The buffer is a slice that overlaps none of the others; it can be written, unless the request is
-/// a write or a load; and nothing else writes it meanwhile.
+/// a write, a load or a page-in; and nothing else writes it meanwhile.
 #[inline(always)]
 pub unsafe fn call_with(
     request: &[u8],

@@ -69,6 +69,26 @@
 //! # Ok::<(), Refusal>(())
 //! ```
 //!
+//! An idle segment is paged out, and its memory is free for others; paged in, it is where a segment as
+//! long was:
+//!
+//! ```
+//! # use bridge::{Encoding, Northbridge, PageIn, PageOut, Refusal, Task, Token};
+//! # let (mut table, mut memory) = ([0; 4 * 32], [7; 4]);
+//! # let mut bridge = Northbridge::reset([1, 2], 1, &mut table, &mut memory)?;
+//! # let (task, encoding) = (Task::NONE, Encoding::E0);
+//! let mut disk = [0; 4];
+//! let out = PageOut { token: Token::ROOT, page_file: 1, task, encoding };
+//! let out = bridge.page_out(&out, &mut disk)?;
+//! assert_eq!((disk, &*bridge.memory), ([7; 4], &[0; 4][..]));
+//! assert_eq!(bridge.read(out.paged, task, &mut [0]), Err(Refusal::Paged));
+//! let back = PageIn { paged: out.paged, donor: out.segment, task, encoding };
+//! let back = bridge.page_in(&back, &disk)?;
+//! bridge.read(back, task, &mut disk)?;
+//! assert_eq!(disk, [7; 4]);
+//! # Ok::<(), Refusal>(())
+//! ```
+//!
 //! An access is no request of [`Northbridge::ask`], since it needs a buffer:
 //!
 //! ```compile_fail,E0599
@@ -121,10 +141,10 @@ pub use answer::{Granted, Reply};
 pub use bytes::{put_words, words_of};
 pub use call::{call, call_leased};
 pub use lease::{minute_of, Lease, Shift, LEASES_BYTES, LEASE_BYTES, WEEK};
-pub use northbridge::{During, Northbridge};
+pub use northbridge::{During, Northbridge, PagedOut};
 pub use operation::{text_length, Buffer, Operation, ACCESS_BYTES, TEXT_BYTES};
 pub use refusal::{refusal_words, Check, Place, Refusal};
-pub use request::Request;
+pub use request::{PageIn, PageOut, Request};
 pub use rights::{Permissions, Task};
 pub use serve::{is_plain, serve, serve_leased, serve_lent, Lent};
 pub use serve::{ANSWER_BYTES, REQUEST_BYTES, STATE_BYTES, VERSION};

@@ -4,7 +4,7 @@ use crate::answer::{Granted, Reply};
 use crate::lease::Shift;
 use crate::operation::Operation;
 use crate::refusal::Refusal;
-use crate::request::Request;
+use crate::request::{PageIn, PageOut, Request};
 use crate::rights::Task;
 use crate::serve::{self, serve_brought};
 use crate::state::State;
@@ -16,6 +16,15 @@ pub struct Northbridge<'a> {
     pub state: State,
     pub table: &'a mut [u8],
     pub memory: &'a mut [u8],
+}
+
+/// The tokens that a page-out gives.
+#[derive(Clone, Copy, Debug, PartialEq, Eq)]
+pub struct PagedOut {
+    /// The entry's new one: it is for a page-in alone.
+    pub paged: Token,
+    /// That of the segment that became free for others: zeros, with all rights and no user.
+    pub segment: Token,
 }
 
 /// A northbridge during a shift: its accesses bring the minute, and are under the leases.
@@ -66,12 +75,12 @@ impl<'a> Northbridge<'a> {
 
     /// The bytes go to an address.
     pub fn write(&mut self, address: Token, task: Task, bytes: &[u8]) -> Result<(), Refusal> {
-        self.brought(Words::access(Operation::Write, address, task), None, bytes)
+        self.brought(Words::access(Operation::Write, address, task), None, bytes).map(|_| ())
     }
 
     /// What HEX text says is written. The token has no offset.
     pub fn load(&mut self, token: Token, task: Task, text: &[u8]) -> Result<(), Refusal> {
-        self.brought(Words::access(Operation::Load, token, task), None, text)
+        self.brought(Words::access(Operation::Load, token, task), None, text).map(|_| ())
     }
 
     /// All bytes that a token names go to the buffer's front as HEX text, whose length is told. The
@@ -80,20 +89,33 @@ impl<'a> Northbridge<'a> {
         self.served(Words::access(Operation::Dump, token, task), None, buffer).map(length)
     }
 
-    /// Serves a request that only reads its buffer: a write or a load.
+    /// A segment's bytes go to a buffer that is as long, and its entry is paged out. The segment, all
+    /// zeros, is a new entry's.
+    pub fn page_out(&mut self, request: &PageOut, buffer: &mut [u8]) -> Result<PagedOut, Refusal> {
+        let granted = self.served(request.words(), None, buffer)?;
+        Ok(PagedOut { paged: granted.first, segment: granted.second })
+    }
+
+    /// The bytes go to the donor's segment, which becomes the paged entry's; the donor's number is
+    /// freed. The entry's new token is told.
+    pub fn page_in(&mut self, request: &PageIn, bytes: &[u8]) -> Result<Token, Refusal> {
+        self.brought(request.words(), None, bytes).map(|granted| granted.first)
+    }
+
+    /// Serves a request that only reads its buffer: a write, a load or a page-in.
     fn brought(
         &mut self,
         request: Words,
         shift: Option<Shift>,
         bytes: &[u8],
-    ) -> Result<(), Refusal> {
+    ) -> Result<Granted, Refusal> {
         let (request, leases) = under(request, shift);
         let Northbridge { state, table, memory } = self;
         let brought = (bytes.as_ptr().cast_mut(), bytes.len());
         // The exclusive slices do not overlap the bytes, and these requests only read them:
         // tests/typed.rs lends them bytes that cannot be written.
         let reply = unsafe { serve_brought(&request, state, table, memory, brought, leases) };
-        typed(&reply).map(|_| ())
+        typed(&reply)
     }
 
     fn served(
@@ -126,12 +148,14 @@ impl During<'_, '_> {
 
     /// The bytes go to an address.
     pub fn write(&mut self, address: Token, task: Task, bytes: &[u8]) -> Result<(), Refusal> {
-        self.bridge.brought(Words::access(Operation::Write, address, task), Some(self.shift), bytes)
+        let request = Words::access(Operation::Write, address, task);
+        self.bridge.brought(request, Some(self.shift), bytes).map(|_| ())
     }
 
     /// What HEX text says is written. The token has no offset.
     pub fn load(&mut self, token: Token, task: Task, text: &[u8]) -> Result<(), Refusal> {
-        self.bridge.brought(Words::access(Operation::Load, token, task), Some(self.shift), text)
+        let request = Words::access(Operation::Load, token, task);
+        self.bridge.brought(request, Some(self.shift), text).map(|_| ())
     }
 
     /// All bytes that a token names go to the buffer's front as HEX text, whose length is told. The

@@ -24,6 +24,8 @@ pub enum Operation {
     Revoke = 12,
     Load = 13,
     Dump = 14,
+    PageOut = 15,
+    PageIn = 16,
 }
 
 /// What the buffer is to an operation.
@@ -39,17 +41,21 @@ pub enum Buffer {
     Text,
     /// HEX text is written at its front; the answer tells how long that is.
     Front,
+    /// A whole segment's bytes are written to it: it is as long as the segment.
+    Out,
+    /// It holds a whole segment's bytes, which are read.
+    In,
 }
 
 impl Buffer {
     /// Whether it is read alone.
     pub const fn is_brought(self) -> bool {
-        matches!(self, Buffer::Brought | Buffer::Text)
+        matches!(self, Buffer::Brought | Buffer::Text | Buffer::In)
     }
 
     /// Whether it is written, all of it or its front.
     pub const fn is_written(self) -> bool {
-        matches!(self, Buffer::Filled | Buffer::Front)
+        matches!(self, Buffer::Filled | Buffer::Front | Buffer::Out)
     }
 
     /// Whether it holds HEX text, before or afterwards.
@@ -57,12 +63,17 @@ impl Buffer {
         matches!(self, Buffer::Text | Buffer::Front)
     }
 
+    /// Whether it must be as long as a segment.
+    pub const fn is_whole(self) -> bool {
+        matches!(self, Buffer::Out | Buffer::In)
+    }
+
     /// The lengths that are not refused for themselves.
     pub const fn lengths(self) -> RangeInclusive<usize> {
         match self {
             Buffer::Filled | Buffer::Brought => 1..=ACCESS_BYTES,
             Buffer::Text => 0..=TEXT_BYTES,
-            Buffer::Unused | Buffer::Front => 0..=usize::MAX,
+            Buffer::Unused | Buffer::Front | Buffer::Out | Buffer::In => 0..=usize::MAX,
         }
     }
 }
@@ -93,18 +104,20 @@ struct Facts {
     /// Whether a granted answer carries a number.
     number: bool,
     /// The checks that it can stop at, in their order: that of 01's table, of paper 2 of 02 for loads
-    /// and dumps, and of paper 4 for what brings a minute. Not possible are:
+    /// and dumps, of paper 4 for what brings a minute, and of paper 6 for paging and paged entries. Not
+    /// possible are:
     /// - Dead of a drop: "dead; drop skips this";
-    /// - Lock, but for "access, create, merge, lock, unlock", and loads and dumps, which "use the
-    ///   access checks";
-    /// - Kind, but for "create, merge, revoke of an indirect entry";
-    /// - Right of merge (it takes "the permissions both have"), clone, drop, unlock, revoke: none
-    ///   asks for a permission, X or Lockable;
-    /// - Bounds, but for accesses, loads, create, derive and merge: the others name no bytes
+    /// - Lock, but for "access, create, merge, lock, unlock", loads and dumps, which "use the access
+    ///   checks", and paging: "lock, kind, length (8), standing, numbers and nonces are checked";
+    /// - Kind, but for "create, merge, revoke of an indirect entry" and paging;
+    /// - Right of merge (it takes "the permissions both have"), clone, drop, unlock, revoke, paging:
+    ///   none asks for a permission, X or Lockable;
+    /// - Bounds, but for accesses, loads, create, derive, merge and paging: the others name no bytes
     ///   ("without the sum"), and a dump names all that there are;
-    /// - Standing, but for those that its row names;
-    /// - Numbers, but for "create, derive, execute-only";
-    /// - Nonces, but for those that issue: create, merge, derive, execute-only, revoke;
+    /// - Standing, but for those that its row names, and paging;
+    /// - Numbers, but for "create, derive, execute-only" and paging out;
+    /// - Nonces, but for those that issue: create, merge, derive, execute-only, revoke, paging;
+    /// - Paged, but for those that name an entry: "in any operation but 'in'";
     /// - Malformed and Checksum, but for loads, and Room, but for dumps;
     /// - Closed and Lease, but for accesses, loads and dumps: "both accesses only";
     /// - and a reset looks at the sizes and the first nonce alone.
@@ -118,7 +131,8 @@ const fn of(operation: Operation) -> Facts {
 }
 
 /// What an access can stop at.
-const ACCESS: &[Check] = &[Request, Lease, Entry, IllFormed, Dead, Lock, Closed, Right, Bounds];
+const ACCESS: &[Check] =
+    &[Request, Lease, Entry, Paged, IllFormed, Dead, Lock, Closed, Right, Bounds];
 
 const ROWS: &[Facts] = &[
     Facts {
@@ -153,7 +167,8 @@ const ROWS: &[Facts] = &[
         arguments: &[Token, Task, Length, User, Permissions, Encoding],
         tokens: &["part", "rest"],
         checks: &[
-            Request, Entry, IllFormed, Dead, Lock, Kind, Right, Bounds, Standing, Numbers, Nonces,
+            Request, Entry, Paged, IllFormed, Dead, Lock, Kind, Right, Bounds, Standing, Numbers,
+            Nonces,
         ],
         ..of(Operation::Create)
     },
@@ -161,53 +176,53 @@ const ROWS: &[Facts] = &[
         name: "merge",
         arguments: &[Token, SecondToken, Task, Encoding],
         tokens: &["whole"],
-        checks: &[Request, Entry, IllFormed, Dead, Lock, Kind, Bounds, Standing, Nonces],
+        checks: &[Request, Entry, Paged, IllFormed, Dead, Lock, Kind, Bounds, Standing, Nonces],
         ..of(Operation::Merge)
     },
     Facts {
         name: "derive",
         arguments: &[Token, Offset, Length, Permissions, Encoding],
         tokens: &["child"],
-        checks: &[Request, Entry, IllFormed, Dead, Right, Bounds, Standing, Numbers, Nonces],
+        checks: &[Request, Entry, Paged, IllFormed, Dead, Right, Bounds, Standing, Numbers, Nonces],
         ..of(Operation::Derive)
     },
     Facts {
         name: "execute-only",
         arguments: &[Token, Encoding],
         tokens: &["code"],
-        checks: &[Request, Entry, IllFormed, Dead, Right, Standing, Numbers, Nonces],
+        checks: &[Request, Entry, Paged, IllFormed, Dead, Right, Standing, Numbers, Nonces],
         ..of(Operation::ExecuteOnly)
     },
     Facts {
         name: "clone",
         arguments: &[Token],
-        checks: &[Request, Entry, IllFormed, Dead, Standing],
+        checks: &[Request, Entry, Paged, IllFormed, Dead, Standing],
         ..of(Operation::Clone)
     },
     Facts {
         name: "drop",
         arguments: &[Token],
         number: true,
-        checks: &[Request, Entry, IllFormed, Standing],
+        checks: &[Request, Entry, Paged, IllFormed, Standing],
         ..of(Operation::Drop)
     },
     Facts {
         name: "lock",
         arguments: &[Token, Holder],
-        checks: &[Request, Entry, IllFormed, Dead, Lock, Right],
+        checks: &[Request, Entry, Paged, IllFormed, Dead, Lock, Right],
         ..of(Operation::Lock)
     },
     Facts {
         name: "unlock",
         arguments: &[Token, Holder],
-        checks: &[Request, Entry, IllFormed, Dead, Lock, Standing],
+        checks: &[Request, Entry, Paged, IllFormed, Dead, Lock, Standing],
         ..of(Operation::Unlock)
     },
     Facts {
         name: "revoke",
         arguments: &[Token, Encoding],
         tokens: &["fresh"],
-        checks: &[Request, Entry, IllFormed, Dead, Kind, Nonces],
+        checks: &[Request, Entry, Paged, IllFormed, Dead, Kind, Nonces],
         ..of(Operation::Revoke)
     },
     Facts {
@@ -215,8 +230,8 @@ const ROWS: &[Facts] = &[
         arguments: &[Token, Minute, Task],
         buffer: Buffer::Text,
         checks: &[
-            Request, Malformed, Checksum, Lease, Entry, IllFormed, Dead, Lock, Closed, Right,
-            Bounds,
+            Request, Malformed, Checksum, Lease, Entry, Paged, IllFormed, Dead, Lock, Closed,
+            Right, Bounds,
         ],
         ..of(Operation::Load)
     },
@@ -224,8 +239,26 @@ const ROWS: &[Facts] = &[
         name: "dump",
         arguments: &[Token, Minute, Task],
         buffer: Buffer::Front,
-        checks: &[Request, Lease, Entry, IllFormed, Dead, Lock, Closed, Right, Room],
+        checks: &[Request, Lease, Entry, Paged, IllFormed, Dead, Lock, Closed, Right, Room],
         ..of(Operation::Dump)
+    },
+    Facts {
+        name: "page-out",
+        arguments: &[Token, PageFile, Task, Encoding],
+        buffer: Buffer::Out,
+        tokens: &["paged", "segment"],
+        checks: &[
+            Request, Entry, Paged, IllFormed, Dead, Lock, Kind, Bounds, Standing, Numbers, Nonces,
+        ],
+        ..of(Operation::PageOut)
+    },
+    Facts {
+        name: "page-in",
+        arguments: &[Token, SecondToken, Task, Encoding],
+        buffer: Buffer::In,
+        tokens: &["back"],
+        checks: &[Request, Entry, IllFormed, Dead, Lock, Kind, Bounds, Standing, Nonces],
+        ..of(Operation::PageIn)
     },
 ];
 

@@ -30,6 +30,7 @@ pub enum Refusal {
     Room,
     Closed,
     Lease,
+    Paged,
 }
 
 /// The checks of 01's table "Where a request stops" and of the papers of 02, by the numbers of their
@@ -58,6 +59,8 @@ pub enum Check {
     Closed = 15,
     /// The minutes of each lease that is lent.
     Lease = 16,
+    /// An entry that is paged out.
+    Paged = 17,
 }
 
 /// A refusal alone, or one that tells a place.
@@ -75,7 +78,7 @@ const ROWS: &[(Check, &str, Form)] = &[
     (Check::IllFormed, "ill-formed", Placed(Refusal::IllFormed)),
     (Check::Dead, "dead line", Placed(Refusal::Dead)),
     (Check::Lock, "locked for another task", Plain(Refusal::Lock)),
-    (Check::Kind, "not a direct entry", Plain(Refusal::Kind)),
+    (Check::Kind, "wrong kind of entry", Plain(Refusal::Kind)),
     (Check::Right, "right lacking", Plain(Refusal::Right)),
     (Check::Bounds, "out of bounds", Plain(Refusal::Bounds)),
     (Check::Standing, "standing forbids it", Plain(Refusal::Standing)),
@@ -86,6 +89,7 @@ const ROWS: &[(Check, &str, Form)] = &[
     (Check::Room, "no room for the output", Plain(Refusal::Room)),
     (Check::Closed, "closed", Plain(Refusal::Closed)),
     (Check::Lease, "bad lease", Plain(Refusal::Lease)),
+    (Check::Paged, "paged out", Plain(Refusal::Paged)),
 ];
 
 /// The rows stand by rising numbers; some may not be given yet.

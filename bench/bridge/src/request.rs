@@ -1,5 +1,5 @@
 //! Requests, typed. Accesses, loads and dumps are not among them: each brings a buffer, and is a call
-//! of its own.
+//! of its own. So is paging, whose words stand here too.
 
 use crate::operation::Operation;
 use crate::rights::{Permissions, Task};
@@ -58,6 +58,44 @@ pub enum Request {
     },
 }
 
+/// A segment that is paged out: its bytes go to a buffer that is as long.
+#[derive(Clone, Copy, Debug, PartialEq, Eq)]
+pub struct PageOut {
+    pub token: Token,
+    /// Where the caller keeps the bytes: any number. The entry holds it while it is paged out.
+    pub page_file: u64,
+    pub task: Task,
+    pub encoding: Encoding,
+}
+
+/// A paged entry that is paged in: its bytes, which the caller kept, go to the donor's segment.
+#[derive(Clone, Copy, Debug, PartialEq, Eq)]
+pub struct PageIn {
+    pub paged: Token,
+    /// A segment as long, unlocked and without references. Its number is freed.
+    pub donor: Token,
+    pub task: Task,
+    pub encoding: Encoding,
+}
+
+impl PageOut {
+    /// The words of the interface; those that the request does not use are zero.
+    pub fn words(&self) -> Words {
+        let PageOut { token, page_file: second, task, encoding } = *self;
+        let words = Words::access(Operation::PageOut, token, task);
+        Words { second, encoding: encoding as u64, ..words }
+    }
+}
+
+impl PageIn {
+    /// The words of the interface; those that the request does not use are zero.
+    pub fn words(&self) -> Words {
+        let PageIn { paged, donor, task, encoding } = *self;
+        let words = Words::access(Operation::PageIn, paged, task);
+        Words { second: donor.0, encoding: encoding as u64, ..words }
+    }
+}
+
 impl Request {
     /// The words of the interface; those that the request does not use are zero.
     pub fn words(&self) -> Words {
@@ -108,7 +146,7 @@ impl Request {
 
 impl Words {
     /// The words of a request with a buffer: an access in one of the three ways, and where it begins;
-    /// a load or a dump, whose token has no offset. Its minute is 0.
+    /// a load or a dump, whose token has no offset. Its second word, such as the minute, is 0.
     pub fn access(way: Operation, address: Token, task: Task) -> Words {
         Words { operation: way as u64, token: address.0, task: task.0, ..Words::default() }
     }

@@ -11,7 +11,7 @@ use crate::state::State;
 use crate::words::Words;
 
 /// The interface's version, which include/northbridge.h has too.
-pub const VERSION: u64 = 6;
+pub const VERSION: u64 = 7;
 
 /// How many bytes the interface's request, state and answer have.
 pub const REQUEST_BYTES: usize = 8 * Words::COUNT;
@@ -86,8 +86,8 @@ pub fn serve_lent(
 /// Serves a request that only reads its buffer.
 ///
 /// # Safety
-/// It is a write or a load; the buffer is a slice that overlaps none of the others, and nothing writes
-/// it meanwhile.
+/// It is a write, a load or a page-in; the buffer is a slice that overlaps none of the others, and
+/// nothing writes it meanwhile.
 #[inline(always)]
 pub unsafe fn serve_brought(
     request: &Words,

@@ -6,7 +6,8 @@ pub struct Words {
     pub operation: u64,
     /// The token; for a reset the first key word.
     pub token: u64,
-    /// A merge's second token, a derive's offset, an access's minute; for a reset the second key word.
+    /// A merge's second token, a page-in's donor, a derive's offset, an access's minute, a page-out's
+    /// page-file number; for a reset the second key word.
     pub second: u64,
     /// The task; for a reset the first nonce.
     pub task: u64,
@@ -63,6 +64,8 @@ pub enum Argument {
     /// Two words.
     Key,
     Offset,
+    /// The page-file number that a paged entry keeps.
+    PageFile,
     /// The minute of the week at which an access, a load or a dump is asked.
     Minute,
     /// The task that asks; 0 for none.
@@ -83,6 +86,7 @@ impl Argument {
         Argument::SecondToken,
         Argument::Key,
         Argument::Offset,
+        Argument::PageFile,
         Argument::Minute,
         Argument::Task,
         Argument::Holder,
@@ -98,7 +102,9 @@ impl Argument {
         match self {
             Argument::Address | Argument::Token => &[Words::TOKEN],
             Argument::Key => &[Words::TOKEN, Words::SECOND],
-            Argument::SecondToken | Argument::Offset | Argument::Minute => &[Words::SECOND],
+            Argument::SecondToken | Argument::Offset | Argument::PageFile | Argument::Minute => {
+                &[Words::SECOND]
+            }
             Argument::Task | Argument::Holder | Argument::FirstNonce => &[3],
             Argument::Length => &[4],
             Argument::User => &[5],

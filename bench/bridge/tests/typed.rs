@@ -2,7 +2,8 @@
 
 use bridge::{text_length, Task, Token, TooFar, Words, TEXT_BYTES};
 use bridge::{
-    Buffer, Check, Encoding, Northbridge, Operation, Permissions, Place, Refusal, Request, State,
+    Buffer, Check, Encoding, Northbridge, Operation, PageIn, PageOut, Permissions, Place, Refusal,
+    Request, State,
 };
 
 /// A constant: it lies where nothing can be written.
@@ -77,6 +78,50 @@ fn a_dump_tells_its_length() {
     assert_eq!(granted.length, 0);
 }
 
+/// Every byte goes out, to a buffer that is as long, and comes in again from bytes that are only read.
+#[test]
+fn paging_moves_whole_segments() {
+    let (task, encoding) = (Task::NONE, Encoding::E0);
+    for length in [1, 4_096, 4_097, RECORD.len(), 1 << 24] {
+        let (mut table, mut memory) = ([0; 4 * 32], vec![0x5a; length]);
+        let mut bridge = Northbridge::reset([0, 0], 1, &mut table, &mut memory).unwrap();
+        let mut disk = vec![0; length + 1];
+        let out = PageOut { token: Token::ROOT, page_file: u64::MAX, task, encoding };
+        for wrong in [0, length - 1, length + 1] {
+            assert_eq!(bridge.page_out(&out, &mut disk[..wrong]), Err(Refusal::Bounds));
+        }
+        let out = bridge.page_out(&out, &mut disk[..length]).unwrap();
+        assert!(bridge.memory.iter().all(|byte| *byte == 0) && disk[length] == 0);
+        assert!(disk[..length].iter().all(|byte| *byte == 0x5a));
+        assert_eq!(bridge.read(out.paged, task, &mut [0]), Err(Refusal::Paged));
+        assert_eq!((out.paged.number(), out.segment.number(), bridge.free_total()), (0, 1, 2));
+        let back = PageIn { paged: out.paged, donor: out.segment, task, encoding };
+        let swapped = PageIn { paged: out.segment, donor: out.paged, ..back };
+        assert_eq!(bridge.page_in(&swapped, &disk[..length]), Err(Refusal::Kind));
+        for wrong in [0, length - 1, length + 1] {
+            assert_eq!(bridge.page_in(&back, &disk[..wrong]), Err(Refusal::Bounds));
+        }
+        let bytes = if length <= RECORD.len() { &RECORD[..length] } else { &disk[..length] };
+        let back = bridge.page_in(&back, bytes).unwrap();
+        assert!(bridge.memory.iter().all(|byte| *byte == 0x5a));
+        assert_eq!((back.number(), bridge.free_total()), (0, 3));
+        bridge.read(back, task, &mut [0]).unwrap();
+    }
+}
+
+/// A locked segment does not go out, not even for its holder.
+#[test]
+fn a_locked_segment_stays() {
+    let (mut table, mut memory) = ([0; 4 * 32], [7; 4]);
+    let mut bridge = Northbridge::reset([0, 0], 1, &mut table, &mut memory).unwrap();
+    let token = Token::ROOT;
+    bridge.ask(&Request::Lock { token, task: Task(7) }).unwrap();
+    for (task, refusal) in [(Task::NONE, Refusal::Lock), (Task(7), Refusal::Standing)] {
+        let out = PageOut { token, page_file: 0, task, encoding: Encoding::E0 };
+        assert_eq!(bridge.page_out(&out, &mut [0; 4]), Err(refusal));
+    }
+}
+
 #[test]
 fn texts_have_their_lengths() {
     assert_eq!([0, 1, 15, 16, 17].map(text_length), [28, 42, 70, 72, 86]);
@@ -90,6 +135,8 @@ fn buffers_are_read_or_written() {
         let buffer = operation.buffer();
         assert!(!(buffer.is_brought() && buffer.is_written()), "{operation:?}");
         assert_eq!(buffer == Buffer::Unused, !buffer.is_brought() && !buffer.is_written());
+        let paging = [Operation::PageOut, Operation::PageIn].contains(&operation);
+        assert_eq!(buffer.is_whole(), paging);
         assert_eq!(operation.answers_length(), operation == Operation::Dump);
     }
 }
@@ -226,7 +273,10 @@ fn each_request_has_its_words() {
         Request::Revoke { token, encoding }.words(),
         access(Operation::Load),
         access(Operation::Dump),
+        PageOut { token, page_file: 2, task, encoding }.words(),
+        PageIn { paged: token, donor: second, task, encoding }.words(),
     ];
+    assert_eq!(all.len(), Operation::COUNT);
     for (operation, words) in Operation::ALL.into_iter().zip(all) {
         let values = [operation as u64, 1, 2, 3, 4, 5, 6, 3];
         let used = |place| place == 0 || operation.uses(place);

@@ -4,8 +4,8 @@
 use std::fmt;
 
 use bridge::{text_length, Check, Lease, Operation, Place, Reply, State, Words};
-use bridge::{LEASES_BYTES, LEASE_BYTES, TEXT_BYTES, WEEK};
-use session::entry::{self, Entry};
+use bridge::{ACCESS_BYTES, LEASES_BYTES, LEASE_BYTES, TEXT_BYTES, WEEK};
+use session::entry::{self, Entry, Field};
 use session::token::Token;
 use session::Step;
 
@@ -102,9 +102,68 @@ pub enum Event {
     PartOfLease,
     LeasesForOthers,
     MisfitForOthers,
+    PagedPassed,
+    LeftPassed,
+    InPassed,
+    BothOfOutPassed,
+    PagedRefused,
+    PagedFoundNone,
+    LeftRefused,
+    InRefused,
+    OutOneNonce,
+    InOneNonce,
+    OutAtZero,
+    InAtTop,
+    RootOut,
+    RootDonated,
+    LeftTheLast,
+    WidePageFile,
+    OutAboveAccess,
+    InAboveAccess,
+    OutOneByte,
+    OutWithoutRight,
+    NotLockableOut,
+    BackToItsPlace,
+    BackElsewhere,
+    OutBufferShort,
+    OutBufferLong,
+    OutNoBuffer,
+    InBufferShort,
+    InBufferLong,
+    InNoBuffer,
+    DonorShort,
+    DonorLong,
+    DonorAndBufferLong,
+    OutByHolder,
+    OutWithCount,
+    DonorOfHolder,
+    DonorWithCount,
+    FirstDirect,
+    FirstIndirect,
+    DonorPaged,
+    DonorItself,
+    DonorIndirect,
+    InLengthZero,
+    InLocked,
+    InCow,
+    InZeros,
+    PagedIllFormed,
+    PagedOtherTag,
+    PagedWithoutRight,
+    PagedBeyond,
+    PagedAtNoNumber,
+    PagedAtNoNonce,
+    MergeSecondPaged,
+    MergeFirstPaged,
+    MergeFirstDerived,
+    MergeBeforePaged,
+    PagedParent,
+    PagedAncestor,
+    IllPagedParent,
+    ClimbStopped,
 }
 
-pub const EVENTS: [(Event, &str); 85] = [
+pub const EVENTS: [(Event, &str); 144] = [
     (Event::PartPassed, "a create's part passed over a nonce"),
     (Event::RestPassed, "a create's rest passed over a nonce"),
     (Event::WholePassed, "a create of the whole passed over a nonce"),
@@ -193,6 +252,104 @@ pub const EVENTS: [(Event, &str); 85] = [
     (Event::PartOfLease, "an access with a part of a lease was refused"),
     (Event::LeasesForOthers, "a request that is no access was granted with bad leases"),
     (Event::MisfitForOthers, "a request that is no access was refused for its table of leases"),
+    (Event::PagedPassed, "a page-out's paged entry passed over a nonce"),
+    (Event::LeftPassed, "the segment that a page-out leaves passed over a nonce"),
+    (Event::InPassed, "a page-in passed over a nonce"),
+    (Event::BothOfOutPassed, "both issues of a page-out passed over a nonce"),
+    (
+        Event::PagedRefused,
+        "a page-out had a nonce for each, but for one that its paged entry passed over",
+    ),
+    (
+        Event::PagedFoundNone,
+        "a page-out's paged entry was to pass over all nonces left, two or more",
+    ),
+    (
+        Event::LeftRefused,
+        "a page-out's paged entry took the next nonce, and its segment found none of those left",
+    ),
+    (Event::InRefused, "a page-in was to pass over all nonces left"),
+    (Event::OutOneNonce, "a page-out was refused with one nonce left"),
+    (Event::InOneNonce, "a page-in took the last nonce"),
+    (Event::OutAtZero, "a page-out gave a number with a total of 0"),
+    (Event::InAtTop, "a page-in freed a number with the total at its top"),
+    (Event::RootOut, "number 0 was paged out"),
+    (Event::RootDonated, "number 0 was a donor, and freed"),
+    (Event::LeftTheLast, "a page-out gave the last free number"),
+    (Event::WidePageFile, "a page-file number above 32 bits was kept"),
+    (Event::OutAboveAccess, "a segment of more than 4,096 bytes was paged out"),
+    (Event::InAboveAccess, "a segment of more than 4,096 bytes was paged in"),
+    (Event::OutOneByte, "a segment of one byte was paged out"),
+    (Event::OutWithoutRight, "a segment without rights was paged out"),
+    (Event::NotLockableOut, "a segment that is not Lockable was paged out"),
+    (Event::BackToItsPlace, "a segment was paged in at the place that it left"),
+    (
+        Event::BackElsewhere,
+        "a segment was paged in at another place, with rights other than the donor's",
+    ),
+    (Event::OutBufferShort, "a page-out was refused whose buffer lacked one byte"),
+    (Event::OutBufferLong, "a page-out was refused whose buffer had one byte too many"),
+    (Event::OutNoBuffer, "a page-out was refused without a buffer"),
+    (Event::InBufferShort, "a page-in was refused whose buffer lacked one byte"),
+    (Event::InBufferLong, "a page-in was refused whose buffer had one byte too many"),
+    (Event::InNoBuffer, "a page-in was refused without a buffer"),
+    (Event::DonorShort, "a page-in was refused whose donor lacked one byte"),
+    (Event::DonorLong, "a page-in was refused whose donor had one byte too many"),
+    (
+        Event::DonorAndBufferLong,
+        "a page-in was refused whose buffer was as long as its donor, and not as its entry",
+    ),
+    (Event::OutByHolder, "a page-out by who held the lock was refused"),
+    (Event::OutWithCount, "a page-out of an unlocked segment was refused for its count"),
+    (Event::DonorOfHolder, "a page-in was refused whose donor its asker had locked"),
+    (Event::DonorWithCount, "a page-in was refused for the count of an unlocked donor"),
+    (Event::FirstDirect, "a page-in was refused whose first token was a segment's"),
+    (Event::FirstIndirect, "a page-in was refused whose first token was a derived entry's"),
+    (Event::DonorPaged, "a page-in was refused whose donor was another paged entry"),
+    (Event::DonorItself, "a page-in was refused whose donor was the paged entry itself"),
+    (Event::DonorIndirect, "a page-in was refused whose donor was derived"),
+    (Event::InLengthZero, "a page-in was refused for a paged entry of length 0"),
+    (Event::InLocked, "a page-in was refused for a paged entry that was Locked"),
+    (Event::InCow, "a page-in was refused for a paged entry with CoW"),
+    (Event::InZeros, "a page-in was refused for a one among a paged entry's zeros"),
+    (Event::PagedIllFormed, "an ill-formed paged entry was refused as paged out"),
+    (Event::PagedOtherTag, "a paged entry was refused for its tag"),
+    (
+        Event::PagedWithoutRight,
+        "an access through a paged entry was refused as such, which had no rights either",
+    ),
+    (
+        Event::PagedBeyond,
+        "an access through a paged entry was refused as such, which was out of bounds too",
+    ),
+    (
+        Event::PagedAtNoNumber,
+        "what gives a number was refused as paged out, and no number was free",
+    ),
+    (Event::PagedAtNoNonce, "what issues was refused as paged out, and no nonce was left"),
+    (Event::MergeSecondPaged, "a merge was refused for its second, which was paged out"),
+    (
+        Event::MergeFirstPaged,
+        "a merge was refused for its first, which was paged out, and its second was no entry",
+    ),
+    (
+        Event::MergeFirstDerived,
+        "a merge was refused for its second, which was paged out, and its first was derived",
+    ),
+    (
+        Event::MergeBeforePaged,
+        "a merge was refused for its first's lock or line, and its second was paged out",
+    ),
+    (
+        Event::PagedParent,
+        "a link to a paged entry was missing, though its tag and nonce were right",
+    ),
+    (Event::PagedAncestor, "the same further up the line"),
+    (
+        Event::IllPagedParent,
+        "a link to an ill-formed paged entry was missing, though its tag and nonce were right",
+    ),
+    (Event::ClimbStopped, "a drop freed a child whose parent was paged out"),
 ];
 
 /// What stood before a request.
@@ -239,6 +396,8 @@ impl Events {
         let operation = Operation::of(request.operation);
         self.total(&seen, operation);
         self.leases(&seen, operation, leases);
+        self.paged(&seen, operation, lent);
+        self.paged_above(&seen, operation);
         if operation.is_some_and(Operation::gives_number) {
             self.given(&seen);
         }
@@ -251,6 +410,8 @@ impl Events {
             Some(Operation::Clone) => self.add(Event::CountAtTop, seen.count_at_top()),
             Some(Operation::Load) => self.load(&seen, lent),
             Some(Operation::Dump) => self.dump(&seen, lent),
+            Some(Operation::PageOut) => self.page_out(&seen, lent),
+            Some(Operation::PageIn) => self.page_in(&seen, lent),
             Some(Operation::Read) => {
                 self.add(Event::LinkRefusedByNonce, seen.link_refused_by_nonce());
                 self.add(Event::DeepestLine, seen.deepest_line());
@@ -292,9 +453,12 @@ impl Events {
                 self.last_tag(seen, issue.number);
             }
         }
-        self.add(Event::BothPassed, passing == 2);
+        let create = seen.request.operation == Operation::Create as u64;
+        self.add(Event::BothPassed, create && passing == 2);
+        self.add(Event::BothOfOutPassed, !create && passing == 2);
         let tags = [seen.reply.first, seen.reply.second].map(|word| Token::unpack(word).tag);
-        self.add(Event::RestAsItsPart, seen.reply.second != 0 && tags[0] == tags[1]);
+        let both = create && seen.reply.second != 0;
+        self.add(Event::RestAsItsPart, both && tags[0] == tags[1]);
     }
 
     /// Whose tag it was that was passed over.
@@ -327,6 +491,12 @@ impl Events {
             Some(Operation::Derive) => Event::DeriveRefused,
             Some(Operation::ExecuteOnly) => Event::ExecuteOnlyRefused,
             Some(Operation::Revoke) => Event::RevokeRefused,
+            Some(Operation::PageIn) => Event::InRefused,
+            Some(Operation::PageOut) => match seen.passed_by_paged() {
+                0 => Event::LeftRefused,
+                passed if passed == left => Event::PagedFoundNone,
+                _ => Event::PagedRefused,
+            },
             _ if seen.takes_the_whole() => Event::WholeRefused,
             _ => match seen.passed_by_part() {
                 0 => Event::RestRefused,
@@ -334,8 +504,15 @@ impl Events {
                 _ => Event::PartRefused,
             },
         };
-        let two = [Event::RestRefused, Event::PartRefused, Event::PartFoundNone].contains(&event);
-        let needed = 1 + u64::from(two);
+        let two = [
+            Event::RestRefused,
+            Event::PartRefused,
+            Event::PartFoundNone,
+            Event::LeftRefused,
+            Event::PagedRefused,
+            Event::PagedFoundNone,
+        ];
+        let needed = 1 + u64::from(two.contains(&event));
         self.add(event, left >= needed);
     }
 
@@ -402,6 +579,11 @@ impl Events {
             Some(Operation::Create | Operation::Derive | Operation::ExecuteOnly) => {
                 self.add(Event::GivenAtZero, total == 0);
             }
+            Some(Operation::PageOut) => self.add(Event::OutAtZero, total == 0),
+            Some(Operation::PageIn) => {
+                self.add(Event::InAtTop, total == top && !root_freed);
+                self.add(Event::RootDonated, root_freed);
+            }
             Some(Operation::Merge) => {
                 self.add(Event::MergedAtTop, total == top && !root_freed);
                 self.add(Event::RootMerged, root_freed);
@@ -416,6 +598,148 @@ impl Events {
             }
             _ => {}
         }
+    }
+
+    fn page_out(&mut self, seen: &Seen, lent: usize) {
+        let old = seen.before.entry(seen.named());
+        let (whole, lent) = (old.length(), lent as u64);
+        let left = SPENT.saturating_sub(seen.before.state.next_nonce);
+        match Check::of(seen.reply.refusal) {
+            None => self.paged_out(seen, &old),
+            Some(Check::Bounds) => {
+                self.add(Event::OutBufferShort, lent + 1 == whole);
+                self.add(Event::OutBufferLong, lent == whole + 1);
+                self.add(Event::OutNoBuffer, lent == 0);
+            }
+            Some(Check::Standing) => {
+                let locked = old.get(entry::LOCKED) != 0;
+                self.add(Event::OutByHolder, locked && old.count() == 0);
+                self.add(Event::OutWithCount, !locked);
+            }
+            Some(Check::Nonces) => self.add(Event::OutOneNonce, left == 1),
+            _ => {}
+        }
+    }
+
+    fn paged_out(&mut self, seen: &Seen, old: &Entry) {
+        self.add(Event::RootOut, seen.named() == 0);
+        self.add(Event::LeftTheLast, free::counted(seen.machine.table()) == 0);
+        let paged = seen.entry(seen.named());
+        self.add(Event::WidePageFile, paged.get(entry::PAGE_FILE) >> 32 != 0);
+        self.add(Event::OutAboveAccess, old.length() > ACCESS_BYTES as u64);
+        self.add(Event::OutOneByte, old.length() == 1);
+        self.add(Event::OutWithoutRight, old.get(entry::PERMISSIONS) == 0);
+        self.add(Event::NotLockableOut, old.get(entry::LOCKABLE) == 0);
+    }
+
+    fn page_in(&mut self, seen: &Seen, lent: usize) {
+        let (paged, donor) = (seen.before.entry(seen.named()), seen.second());
+        match Check::of(seen.reply.refusal) {
+            None => self.paged_in(seen, &paged, &donor),
+            Some(Check::IllFormed) if paged.kind() == entry::PAGED => {
+                self.add(Event::InLengthZero, paged.length() == 0);
+                self.add(Event::InLocked, paged.get(entry::LOCKED) != 0);
+                self.add(Event::InCow, paged.get(entry::COPY_ON_WRITE) != 0);
+                self.add(Event::InZeros, paged.get(entry::PAGED_ZEROS) != 0);
+            }
+            Some(Check::Kind) => {
+                self.add(Event::FirstDirect, paged.kind() == entry::DIRECT);
+                self.add(Event::FirstIndirect, paged.kind() == entry::INDIRECT);
+                let (itself, of_first) = (donor == paged, paged.kind() == entry::PAGED);
+                self.add(Event::DonorPaged, !itself && of_first && donor.kind() == entry::PAGED);
+                self.add(Event::DonorItself, itself && of_first);
+                self.add(Event::DonorIndirect, of_first && donor.kind() == entry::INDIRECT);
+            }
+            Some(Check::Bounds) => self.misfitting([paged, donor], lent as u64),
+            Some(Check::Standing) => {
+                let locked = donor.get(entry::LOCKED) != 0;
+                self.add(Event::DonorOfHolder, locked && donor.count() == 0);
+                self.add(Event::DonorWithCount, !locked);
+            }
+            _ => {}
+        }
+    }
+
+    fn paged_in(&mut self, seen: &Seen, paged: &Entry, donor: &Entry) {
+        self.add(Event::InAboveAccess, paged.length() > ACCESS_BYTES as u64);
+        self.add(Event::InOneNonce, seen.before.state.next_nonce + 1 == SPENT);
+        let rights = |entry: &Entry| entry.get(entry::PERMISSIONS);
+        // What a page-out leaves is issued just behind the paged entry.
+        let left = paged.get(entry::NONCE) + 1 == donor.get(entry::NONCE);
+        self.add(Event::BackToItsPlace, left);
+        self.add(Event::BackElsewhere, !left && rights(paged) != rights(donor));
+    }
+
+    /// A page-in whose three lengths are not equal.
+    fn misfitting(&mut self, [paged, donor]: [Entry; 2], lent: u64) {
+        let (whole, of_donor) = (paged.length(), donor.length());
+        let fits = of_donor == whole;
+        self.add(Event::InBufferShort, fits && lent + 1 == whole);
+        self.add(Event::InBufferLong, fits && lent == whole + 1);
+        self.add(Event::InNoBuffer, fits && lent == 0);
+        self.add(Event::DonorShort, lent == whole && of_donor + 1 == whole);
+        self.add(Event::DonorLong, lent == whole && of_donor == whole + 1);
+        self.add(Event::DonorAndBufferLong, lent == of_donor && of_donor == whole + 1);
+    }
+
+    /// Requests through an entry that is paged out.
+    fn paged(&mut self, seen: &Seen, operation: Option<Operation>, lent: usize) {
+        let Some(operation) = operation.filter(|operation| operation.names_entry()) else {
+            return;
+        };
+        let (named, token) = (seen.before.entry(seen.named()), Token::unpack(seen.request.token));
+        let paged = named.kind() == entry::PAGED;
+        let check = Check::of(seen.reply.refusal);
+        let by_tag = paged && check == Some(Check::Entry) && named.get(entry::TAG) != token.tag;
+        self.add(Event::PagedOtherTag, by_tag);
+        if operation == Operation::Merge {
+            self.merge_of_paged(seen, check);
+        }
+        if check != Some(Check::Paged) || !paged {
+            return;
+        }
+        let ones = [entry::LOCKED, entry::COPY_ON_WRITE, entry::PAGED_ZEROS];
+        let ill_formed = named.length() == 0 || ones.iter().any(|bits| named.get(*bits) != 0);
+        self.add(Event::PagedIllFormed, ill_formed);
+        let end = token.offset + lent as u64;
+        let access = operation.is_access();
+        self.add(Event::PagedWithoutRight, access && named.get(entry::PERMISSIONS) == 0);
+        self.add(Event::PagedBeyond, access && end > named.length());
+        let full = free::counted(seen.before.table) == 0;
+        self.add(Event::PagedAtNoNumber, full && operation.gives_number());
+        let spent = seen.before.state.next_nonce == SPENT;
+        self.add(Event::PagedAtNoNonce, spent && operation.issues());
+    }
+
+    /// A merge of which one entry or both are paged out.
+    fn merge_of_paged(&mut self, seen: &Seen, check: Option<Check>) {
+        let first = seen.before.entry(seen.named());
+        let [one, two] = [first, seen.second()].map(|entry| entry.kind() == entry::PAGED);
+        let second = two && seen.second_stands();
+        let refused = check == Some(Check::Paged);
+        self.add(Event::MergeSecondPaged, refused && !one && second);
+        self.add(Event::MergeFirstPaged, refused && one && !seen.second_stands());
+        let derived = first.kind() == entry::INDIRECT;
+        self.add(Event::MergeFirstDerived, refused && derived && second);
+        let earlier = [Check::IllFormed, Check::Dead, Check::Lock].map(Some).contains(&check);
+        self.add(Event::MergeBeforePaged, earlier && !one && second);
+    }
+
+    /// Lines in which a parent is paged out.
+    fn paged_above(&mut self, seen: &Seen, operation: Option<Operation>) {
+        if !operation.is_some_and(Operation::names_entry) {
+            return;
+        }
+        let Some((depth, parent)) = seen.paged_parent() else { return };
+        let dead = seen.reply.refusal == Check::Dead as u64;
+        let named = seen.reply.place == Place::Named as u64;
+        self.add(Event::PagedParent, dead && named && depth == 0);
+        self.add(Event::PagedAncestor, dead && !named && depth > 0);
+        let ill_formed = parent.length() == 0 || parent.get(entry::COPY_ON_WRITE) != 0;
+        self.add(Event::IllPagedParent, dead && ill_formed);
+        let dropped = operation == Some(Operation::Drop) && seen.reply.refusal == 0;
+        let freed = seen.entry(seen.named()).is_free();
+        self.add(Event::ClimbStopped, dropped && freed && depth == 0);
     }
 
     /// What leases and minutes did.
@@ -554,6 +878,10 @@ impl Seen<'_> {
             Some(Operation::Derive) => vec![given(Event::DerivePassed)],
             Some(Operation::ExecuteOnly) => vec![given(Event::ExecuteOnlyPassed)],
             Some(Operation::Revoke) => vec![again(Event::RevokePassed)],
+            Some(Operation::PageOut) => {
+                vec![again(Event::PagedPassed), given(Event::LeftPassed)]
+            }
+            Some(Operation::PageIn) => vec![again(Event::InPassed)],
             _ => Vec::new(),
         }
     }
@@ -577,6 +905,46 @@ impl Seen<'_> {
         let kept = self.before.entry(number).get(entry::TAG);
         let passed = |nonce: &u64| tag::issued(&part, key, number, *nonce) == kept;
         (next_nonce..SPENT).take_while(passed).count() as u64
+    }
+
+    /// Of a page-out that was refused for its nonces: how many of those left its paged entry passed over.
+    fn passed_by_paged(&self) -> u64 {
+        let State { key, next_nonce, .. } = self.before.state;
+        let (number, old) = (self.named(), self.before.entry(self.named()));
+        let paged = Entry::paged(self.request.second, old.length());
+        let kept = [entry::USER, entry::PERMISSIONS, entry::LOCKABLE];
+        let paged = kept.into_iter().fold(paged, |paged, bits| paged.with(bits, old.get(bits)));
+        let held = old.get(entry::TAG);
+        let passed = |nonce: &u64| tag::issued(&paged, key, number, *nonce) == held;
+        (next_nonce..SPENT).take_while(passed).count() as u64
+    }
+
+    /// Of a request that names two entries: the second one as it was before.
+    fn second(&self) -> Entry {
+        self.before.entry(Token::unpack(self.request.second).number as usize)
+    }
+
+    /// Of such a request: whether its second token is that of an entry.
+    fn second_stands(&self) -> bool {
+        !self.second().is_free()
+            && self.second().get(entry::TAG) == Token::unpack(self.request.second).tag
+    }
+
+    /// The paged entries above the named one to which links lead that would hold, with their depth.
+    fn paged_parent(&self) -> Option<(usize, Entry)> {
+        let mut child = self.before.entry(self.named());
+        for depth in 0..ENTRIES {
+            let Token { tag, number, .. } = Token::unpack(child.field(Field::Parent));
+            let parent = self.before.entry(number as usize);
+            let held =
+                parent.get(entry::TAG) == tag && parent.get(entry::NONCE) < child.get(entry::NONCE);
+            match parent.kind() {
+                _ if child.kind() != entry::INDIRECT || !held => return None,
+                entry::PAGED => return Some((depth, parent)),
+                _ => child = parent,
+            }
+        }
+        None
     }
 
     /// Of a reset: whether it was granted over a free entry that kept a tag.

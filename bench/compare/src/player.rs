@@ -267,6 +267,21 @@ impl<'a> Player<'a> {
         self.ask(Words { encoding, ..words })
     }
 
+    /// Pages a segment out, to a buffer of so many bytes.
+    pub fn page_out(&mut self, token: u64, length: usize) -> Reply {
+        let operation = Operation::PageOut as u64;
+        let (second, encoding) = (self.dice.word(), self.dice.below(4));
+        let request = Words { operation, token, second, encoding, ..Words::default() };
+        self.ask_with(request, vec![0xB5; length])
+    }
+
+    /// Pages a segment in, to a donor's place, from so many bytes of its own.
+    pub fn page_in(&mut self, token: u64, donor: u64, length: usize) -> Reply {
+        let (operation, second) = (Operation::PageIn as u64, donor);
+        let (encoding, buffer) = (self.dice.below(4), self.dice.bytes(length));
+        self.ask_with(Words { operation, token, second, encoding, ..Words::default() }, buffer)
+    }
+
     /// Execute-only, clone, drop or revoke.
     pub fn simple(&mut self, operation: Operation, token: u64) -> Reply {
         let encoding = self.dice.below(4);

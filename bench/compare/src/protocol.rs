@@ -2,7 +2,7 @@
 //! standard output.
 //!
 //! ```text
-//! northbridge 4                                   northbridge 4
+//! northbridge 5                                   northbridge 5
 //! world TABLE MEMORY KEY0 KEY1 LAST NEXT TOTAL    ok
 //! table AT BYTES                                  ok
 //! memory AT BYTES                                 ok
@@ -23,10 +23,10 @@
 use bridge::{Reply, State, Words};
 
 /// The protocol's version. It is raised with every change that a simulator can see.
-const VERSION: &str = "4";
+const VERSION: &str = "5";
 
 /// The first line, and its answer.
-pub const GREETING: &str = "northbridge 4";
+pub const GREETING: &str = "northbridge 5";
 
 /// How many bytes of table or memory one line holds at most.
 pub const PIECE: usize = 8_192;
@@ -246,7 +246,7 @@ mod tests {
     fn bad_lines_say_what_was_expected() {
         let wrong = |line: &str| parse(line).unwrap_err();
         assert!(wrong("").contains("northbridge"));
-        assert!(wrong("northbridge 3").contains("version 4"));
+        assert!(wrong("northbridge 4").contains("version 5"));
         assert!(wrong("world 40 10 1 2 3 4").contains("7 words"));
         assert!(wrong("serve 1 2 - -").contains("8 words before the last two, not 2"));
         assert!(wrong("serve +1 0 0 0 0 0 0 0 - -").contains("'+1'"));

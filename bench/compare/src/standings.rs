@@ -21,16 +21,18 @@ const DEAD: usize = 5;
 const UNDER_DEAD: usize = 6;
 /// A child of the root's, without R.
 pub const CHILD: usize = 7;
+const PAGED: usize = 8;
+const ENTRIES: usize = 9;
 
 /// Those that an access is refused for, in the order of the checks.
-pub const REFUSED: [usize; 5] = [ILL_FORMED, UNDER_ILL_FORMED, DEAD, UNDER_DEAD, LOCKED];
+pub const REFUSED: [usize; 6] = [PAGED, ILL_FORMED, UNDER_ILL_FORMED, DEAD, UNDER_DEAD, LOCKED];
 
 /// Who holds the lock.
 pub const HOLDER: u64 = 7;
 
 /// Such a table, with any state.
 pub fn world(player: &mut Player) -> World {
-    let mut world = World::zeros((CHILD + 1) * SIZE, LENGTH as usize);
+    let mut world = World::zeros(ENTRIES * SIZE, LENGTH as usize);
     let numbered = |entry: Entry, number: usize| {
         entry.with(entry::TAG, number as u64).with(entry::NONCE, number as u64)
     };
@@ -50,6 +52,7 @@ pub fn world(player: &mut Player) -> World {
         dead,
         numbered(below(dead, DEAD), UNDER_DEAD),
         numbered(below(root, 0).with(entry::PERMISSIONS, 3), CHILD),
+        numbered(Entry::paged(0, PART), PAGED),
     ];
     for (number, entry) in entries.iter().enumerate() {
         entry.store(&mut world.table, number);

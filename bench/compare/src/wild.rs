@@ -26,6 +26,8 @@ const WEIGHTS: [(Operation, u64); Operation::COUNT] = [
     (Operation::Revoke, 5),
     (Operation::Load, 3),
     (Operation::Dump, 2),
+    (Operation::PageOut, 5),
+    (Operation::PageIn, 8),
     (Operation::Reset, 1),
 ];
 
@@ -37,6 +39,7 @@ const ORDER: [Argument; Argument::ALL.len()] = [
     Argument::SecondToken,
     Argument::FirstNonce,
     Argument::Key,
+    Argument::PageFile,
     Argument::Minute,
     Argument::Task,
     Argument::Holder,
@@ -64,6 +67,12 @@ pub const TASKS: [u64; 12] = [
 
 /// Longer segments are dumped to a buffer that is too short.
 const LONG: u64 = 1_000;
+
+/// Longer segments are paged with a buffer that is too short.
+const LONG_PAGE: u64 = 8_192;
+
+/// Page-file numbers, with ones on both sides of 32 bits.
+const PAGE_FILES: [u64; 6] = [0, 1, 1 << 31, 1 << 32, (5 << 32) + 9, u64::MAX];
 
 /// Asks random requests.
 pub fn play(player: &mut Player, requests: usize) {
@@ -101,6 +110,10 @@ pub fn ask_through(player: &mut Player, operation: Operation, number: usize) {
 
 /// A random request of an operation with its buffer, mostly through the entry of a number.
 pub fn request(player: &mut Player, operation: Operation, number: usize) -> (Words, Vec<u8>) {
+    let number = match operation {
+        Operation::PageIn => paged_number(player, number),
+        _ => number,
+    };
     let entry = player.entry(number);
     if operation.is_access() {
         return access(player, operation, number, &entry);
@@ -109,6 +122,7 @@ pub fn request(player: &mut Player, operation: Operation, number: usize) -> (Wor
     let buffer = match operation.buffer() {
         Buffer::Text => image::text(&mut player.dice, entry.length()),
         Buffer::Front => room(player, entry.length()),
+        Buffer::Out | Buffer::In => page(player, entry.length()),
         _ if player.dice.once_in(16) => player.dice.bytes(3),
         _ => Vec::new(),
     };
@@ -152,6 +166,42 @@ fn room(player: &mut Player, whole: u64) -> Vec<u8> {
         _ => told + 1 + player.dice.index(20),
     };
     player.dice.bytes(length)
+}
+
+/// A buffer for a segment of so many bytes: mostly as long.
+fn page(player: &mut Player, whole: u64) -> Vec<u8> {
+    let whole = whole.min(LONG_PAGE) as usize;
+    let length = match player.dice.below(24) {
+        0 => 0,
+        1 => whole.saturating_sub(1),
+        2 => whole + 1,
+        3 => player.dice.index(whole + 2),
+        _ => whole,
+    };
+    player.dice.bytes(length)
+}
+
+/// A number that is paged out, sought from one on; mostly, and if there is one.
+fn paged_number(player: &mut Player, number: usize) -> usize {
+    let entries = player.entries().max(1);
+    let mut all = (number..number + entries).map(|number| number % entries);
+    let paged = all.find(|number| player.entry(*number).kind() == entry::PAGED);
+    paged.filter(|_| !player.dice.once_in(12)).unwrap_or(number)
+}
+
+/// A donor's token for an entry that is paged out: mostly that of a segment as long, at rest.
+fn donor(player: &mut Player, paged: &Entry) -> u64 {
+    let fits = |entry: Entry| {
+        let at_rest = entry.count() == 0 && entry.get(entry::LOCKED) == 0;
+        entry.kind() == entry::DIRECT && at_rest && entry.length() == paged.length()
+    };
+    let fitting = (0..player.entries()).find(|number| fits(player.entry(*number)));
+    let number = match fitting {
+        Some(number) if !player.dice.once_in(8) => number,
+        _ => used_number(player),
+    };
+    let entry = player.entry(number);
+    token(player, number, &entry)
 }
 
 /// The operations that name an entry, but for accesses.
@@ -287,7 +337,11 @@ fn choose(player: &mut Player, argument: Argument, entry: &Entry, words: &mut Wo
     match argument {
         // A minute is chosen with the leases.
         Argument::Address | Argument::Token | Argument::Minute => {}
+        Argument::SecondToken if words.operation == Operation::PageIn as u64 => {
+            words.second = donor(player, entry);
+        }
         Argument::SecondToken => words.second = neighbour(player, entry),
+        Argument::PageFile => words.second = page_file(player),
         Argument::Key => [words.token, words.second] = [player.dice.word(), player.dice.word()],
         Argument::Offset => words.second = offset(player, whole, words.length),
         Argument::Task | Argument::Holder => words.task = task(player),
@@ -306,6 +360,14 @@ pub fn first_nonce(player: &mut Player) -> u64 {
         1 => (1 << 32) - player.dice.between(1, 12),
         2 | 3 => player.dice.between(1, (1 << 32) - 1),
         _ => player.dice.between(1, 300),
+    }
+}
+
+/// Any page-file number, those at the ends of their bits too.
+fn page_file(player: &mut Player) -> u64 {
+    match player.dice.once_in(2) {
+        true => player.dice.one_of(&PAGE_FILES),
+        false => player.dice.word(),
     }
 }
 

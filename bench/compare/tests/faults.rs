@@ -203,7 +203,7 @@ fn soon(all: &[Seen]) -> String {
 #[test]
 fn each_fault_is_found_and_shrunk() {
     let names = names();
-    assert!(names.len() >= 210);
+    assert!(names.len() >= 268);
     let mut all = find_all(names);
     all.sort_by(|one, other| one.name.cmp(&other.name));
     for Seen { name, requests, shrunk } in &all {

@@ -13,7 +13,7 @@ fn answers(lines: &str) -> Vec<String> {
 
 #[test]
 fn a_session_by_lines() {
-    let lines = "northbridge 4\n\
+    let lines = "northbridge 5\n\
         world 40 8 0 0 0 0 9\n\
         memory 2 aAbB\n\
         serve 0 5 6 1 0 0 0 0 - -\n\
@@ -30,7 +30,7 @@ fn a_session_by_lines() {
     let root = "200000000000002000000000000000000000000000000000003a000000000000";
     let root = root.replacen("2000000000000020", "2000000000000001", 1);
     let wanted = [
-        "northbridge 4".to_string(),
+        "northbridge 5".to_string(),
         "ok".to_string(),
         "ok".to_string(),
         "answer 0 0 0 0 0 0 5 6 0 1 1 -".to_string(),
@@ -66,22 +66,22 @@ fn lines_that_cannot_be_read() {
 /// A line that is too long is answered once, nothing of it is kept, and the next one is served.
 #[test]
 fn a_line_that_is_too_long() {
-    let lines = io::repeat(b'x').take(1 << 24).chain(&b"\nnorthbridge 4\n"[..]);
+    let lines = io::repeat(b'x').take(1 << 24).chain(&b"\nnorthbridge 5\n"[..]);
     let mut output = Vec::new();
     serve(BufReader::new(lines), &mut output).expect("a served input");
-    let wanted = "error expected a line of at most 141568 characters\nnorthbridge 4\n";
+    let wanted = "error expected a line of at most 141568 characters\nnorthbridge 5\n";
     assert_eq!(String::from_utf8_lossy(&output), wanted);
 }
 
 /// Whoever speaks another version is told so.
 #[test]
 fn another_version() {
-    let wanted = "error expected version 4; docs/SUPPLIER.md says what changed";
+    let wanted = "error expected version 5; docs/SUPPLIER.md says what changed";
     assert_eq!(answers("northbridge 3\nnorthbridge\n"), [wanted, wanted]);
 }
 
 #[test]
 fn no_line_and_a_line_without_an_end() {
     assert_eq!(answers(""), Vec::<String>::new());
-    assert_eq!(answers("northbridge 4"), ["northbridge 4"]);
+    assert_eq!(answers("northbridge 5"), ["northbridge 5"]);
 }

@@ -6,10 +6,12 @@ use session::entry::{self, Entry};
 use session::token::Token;
 use session::{Session, World};
 
-/// The proved code with a fault: a revoke answers another token once so many were granted.
+/// The proved code with a fault: a request of an operation, such as a revoke, answers another token once
+/// so many were granted.
 struct Faulty {
     proved: Proved,
-    revokes: usize,
+    operation: Operation,
+    granted: usize,
     limit: usize,
 }
 
@@ -19,15 +21,15 @@ impl Machine for Faulty {
     }
 
     fn begin(&mut self, world: &World) -> Result<(), Trouble> {
-        self.revokes = 0;
+        self.granted = 0;
         self.proved.begin(world)
     }
 
     fn serve(&mut self, request: &Words, lent: Lent) -> Result<Reply, Trouble> {
         let mut reply = self.proved.serve(request, lent)?;
-        if request.operation == Operation::Revoke as u64 && reply.refusal == 0 {
-            self.revokes += 1;
-            reply.first ^= u64::from(self.revokes >= self.limit);
+        if request.operation == self.operation as u64 && reply.refusal == 0 {
+            self.granted += 1;
+            reply.first ^= u64::from(self.granted >= self.limit);
         }
         Ok(reply)
     }
@@ -46,9 +48,25 @@ impl Machine for Faulty {
 }
 
 fn found(limit: usize, seed: u64) -> Outcome {
-    let faulty = Faulty { proved: Proved::new(), revokes: 0, limit };
+    found_at(Operation::Revoke, limit, seed)
+}
+
+fn found_at(operation: Operation, limit: usize, seed: u64) -> Outcome {
+    let faulty = Faulty { proved: Proved::new(), operation, granted: 0, limit };
     let pair = Pair::new(Box::new(Proved::new()), Box::new(faulty));
     compare(&Options { seed, ..Options::default() }, pair).expect("a run")
+}
+
+/// Buffer, segment and donor are of one length, and become shorter together.
+#[test]
+fn pages_are_shrunk_to_a_few_bytes() {
+    for operation in [Operation::PageOut, Operation::PageIn] {
+        for seed in 1..4 {
+            let session = found_at(operation, 1, seed).found.expect("a difference").session;
+            let lengths = session.steps.iter().map(|step| step.buffer.len());
+            assert!(lengths.max() <= Some(2), "{}", session::text::print(&session));
+        }
+    }
 }
 
 #[test]

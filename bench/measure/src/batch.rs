@@ -2,8 +2,9 @@
 //!
 //! A request that changes the table is asked once of each of several equal copies of state and
 //! table; the copies are restored between batches, outside the time taken. An access changes neither
-//! and is asked many times of one copy, and so are a load and a dump. Memory is not restored: a write
-//! and a load store the same bytes again and a revoke zeros what is zero, at the same cost.
+//! and is asked many times of one copy, and so are a load and a dump. Memory is not restored: a write,
+//! a load and a page-in store the same bytes again, and a revoke and a page-out zero what is zero, at
+//! the same cost.
 
 use std::hint::black_box;
 use std::time::Instant;
@@ -167,6 +168,15 @@ impl Batch {
                 Limit::Leases(range) => {
                     black_box(limit::pass(black_box(&self.leases)));
                     limit::copy(&mut self.buffer, &self.memory[range.clone()]);
+                }
+                Limit::Out(range) => {
+                    limit::copy(&mut self.buffer, &self.memory[range.clone()]);
+                    limit::clear(&mut self.memory[range.clone()]);
+                    limit::issue(key, &message, 2);
+                }
+                Limit::In(range) => {
+                    limit::copy(&mut self.memory[range.clone()], &self.buffer);
+                    limit::issue(key, &message, 1);
                 }
                 Limit::ClearTable => limit::clear(&mut copy.table),
                 Limit::Renew(range) => {

@@ -2,7 +2,7 @@
 //!
 //! - [`time`] measures the proved code, the model and the limits side by side, and writes tables;
 //! - [`stack`] measures how much stack the shallowest call, the deepest walk, with leases and without,
-//!   the deepest drop, a load and a dump need, which a test holds to [`BOUND`];
+//!   the deepest drop, a load, a dump and paging need, which a test holds to [`BOUND`];
 //! - [`refused`] gives the refused requests whose instructions `bench/instructions` counts.
 
 mod accesses;
@@ -14,6 +14,7 @@ mod images;
 mod limit;
 mod operations;
 mod paged;
+mod paging;
 mod parts;
 mod refused;
 mod rounds;

@@ -17,6 +17,10 @@ pub enum Limit {
     Text(usize),
     /// A read under leases: their words are added up, and these bytes of memory copied to the buffer.
     Leases(Range<usize>),
+    /// A page-out: these bytes of memory are copied to the buffer and zeroed, and two entries hashed.
+    Out(Range<usize>),
+    /// A page-in: the buffer is copied to these bytes of memory, and one entry is hashed.
+    In(Range<usize>),
     /// A reset: the table is zeroed.
     ClearTable,
     /// A revoke: these bytes of memory are zeroed, and one entry is hashed.
@@ -33,6 +37,8 @@ impl Limit {
             Limit::Load(_) | Limit::Store(_) => "memcpy".into(),
             Limit::Text(_) => "memcpy of the text".into(),
             Limit::Leases(_) => "sum of the leases + memcpy".into(),
+            Limit::Out(_) => "memcpy + memset + 2 SipHash".into(),
+            Limit::In(_) => "memcpy + SipHash".into(),
             Limit::ClearTable => "memset".into(),
             Limit::Renew(_) => "memset + SipHash".into(),
             Limit::Issue(1) => "SipHash".into(),

@@ -1,7 +1,7 @@
 //! The parts of the benchmark.
 
 use crate::case::Case;
-use crate::{accesses, images, operations};
+use crate::{accesses, images, operations, paging};
 
 /// Sizes of tables for the search of a free number and for a reset.
 const ENTRIES: [usize; 5] = [4, 16, 64, 256, 1_024];
@@ -39,6 +39,8 @@ pub fn parts() -> Vec<Part> {
         growing("Revokes", SEGMENTS.map(operations::revoke), "KiB", 1_024),
         growing("Loads", images::SIZES.map(images::load), "KiB", 1_024),
         growing("Dumps", images::SIZES.map(images::dump), "KiB", 1_024),
+        growing("Segments paged out", paging::SIZES.map(paging::out), "KiB", 1_024),
+        growing("Segments paged in", paging::SIZES.map(paging::back), "KiB", 1_024),
     ]
 }
 

@@ -2,7 +2,8 @@
 //! the segment's bytes. What the tables stand at and what is asked are tried one with the other, and
 //! what the model refuses is kept.
 
-use bridge::{Encoding, Lease, Lent, Operation, Permissions, Request, Task, Token, Words};
+use bridge::{Encoding, Lease, Lent, Operation, PageIn, PageOut};
+use bridge::{Permissions, Request, Task, Token, Words};
 use bridge::{ANSWER_BYTES, LEASES_BYTES, LEASE_BYTES, TEXT_BYTES, WEEK};
 use session::entry::{self, Entry};
 use session::server::{Model, Server};
@@ -121,7 +122,17 @@ fn standings(world: &World) -> Vec<(&'static str, World)> {
         ("owner's count full", entry(SEGMENT, |owner| owner.with_count(0xffff))),
         ("owner's count 0", entry(SEGMENT, |owner| owner.with_count(0))),
         ("child's count full", entry(CHILD, |child| child.with_count(0xffff))),
+        ("a paged entry", changed(&|world| put(world, FREE, page))),
     ]
+}
+
+/// A number that is free as the segment was locked, and the token of what may stand there.
+const FREE: usize = 7;
+const PAGED: Token = Token(7 << 32);
+
+/// The entry becomes one that is paged out, as long as the segment.
+fn page(_: Entry) -> Entry {
+    Entry::paged(1, LENGTH as u64)
 }
 
 fn put(world: &mut World, number: usize, change: fn(Entry) -> Entry) {
@@ -147,7 +158,8 @@ fn asked(tokens: &[Token], tasks: &[Task], rest: Token) -> Vec<Asked> {
 }
 
 fn asked_through(token: Token, task: Task, rest: Token) -> Vec<Asked> {
-    let mut asked = [accesses(token, task), images(token, task)].concat();
+    let mut asked =
+        [accesses(token, task), images(token, task), paging(token, task, rest)].concat();
     let others = [changes(token, task, rest), strange_changes(token, task)].concat();
     asked.extend(others.into_iter().map(|words| (words, Vec::new(), None)));
     asked
@@ -179,6 +191,25 @@ fn images(token: Token, task: Task) -> Vec<Asked> {
         load(&[b'\n'; TEXT_BYTES + 1]),
         dump(64),
         dump(12_000),
+    ]
+}
+
+/// A segment paged out, to a buffer as long and to another; and in, with it as the paged entry and as the
+/// donor.
+fn paging(token: Token, task: Task, rest: Token) -> Vec<Asked> {
+    let encoding = Encoding::E0;
+    let out = |token| PageOut { token, page_file: 1, task, encoding }.words();
+    let back = |paged, donor| PageIn { paged, donor, task, encoding }.words();
+    let lent = |words, length| (words, vec![0xa5; length], None);
+    vec![
+        lent(out(token), LENGTH),
+        lent(out(token), LENGTH - 1),
+        lent(out(Token(token.0 + 1)), LENGTH),
+        lent(back(token, rest), LENGTH),
+        lent(back(rest, token), LENGTH),
+        lent(back(PAGED, token), LENGTH),
+        lent(back(PAGED, token), 1),
+        lent(out(PAGED), LENGTH),
     ]
 }
 

@@ -11,9 +11,9 @@ use bridge::{ANSWER_BYTES, LEASES_BYTES, LEASE_BYTES, REQUEST_BYTES, STATE_BYTES
 use session::World;
 
 use crate::built::Built;
-use crate::images;
 use crate::served::{self, Call};
 use crate::thread::Stack;
+use crate::{images, paging};
 
 /// The deepest line: a table has 1,024 entries, and one of them is the owner.
 pub const DEEPEST: usize = 1_023;
@@ -24,6 +24,9 @@ pub const BOUND: usize = 2_048;
 
 /// How many bytes are loaded and dumped.
 const IMAGE: usize = 23_000;
+
+/// How many bytes are paged out and in.
+const PAGED: usize = 65_536;
 
 /// As many leases as can be lent.
 const LEASES: usize = LEASES_BYTES / LEASE_BYTES;
@@ -45,6 +48,9 @@ pub struct Figures {
     /// A load and a dump of nearly the longest text.
     pub load: usize,
     pub dump: usize,
+    /// A segment paged out and in.
+    pub page_out: usize,
+    pub page_in: usize,
     /// The same read, under as many leases as can be lent.
     pub leased: usize,
 }
@@ -57,6 +63,8 @@ impl fmt::Display for Figures {
         writeln!(out, "  {:>7}  deepest drop, a climb of {DEEPEST} links", self.drop)?;
         writeln!(out, "  {:>7}  a load of {IMAGE} bytes", self.load)?;
         writeln!(out, "  {:>7}  a dump of {IMAGE} bytes", self.dump)?;
+        writeln!(out, "  {:>7}  a page-out of {PAGED} bytes", self.page_out)?;
+        writeln!(out, "  {:>7}  a page-in of {PAGED} bytes", self.page_in)?;
         writeln!(out, "  {:>7}  the deepest walk under {LEASES} leases", self.leased)?;
         writeln!(out, "  {BOUND:>7}  the bound that a test holds them to")?;
         write!(out, "A call that does nothing shows {}; less cannot be told apart.", self.floor)
@@ -73,6 +81,7 @@ pub fn stack() -> io::Result<Figures> {
     let (bare, bare_token) = deepest_bare();
     let drop = Request::Drop { token: bare_token }.words();
     let (load, dump) = (images::load(IMAGE), images::dump(IMAGE));
+    let (out, back) = (paging::out(PAGED), paging::back(PAGED));
     let (byte, proved) = (&[0], Call::Plain(served::proved));
     let lease = Lease::of(token, 0, 1).expect("a number of the table").to_bytes();
     let leases = lease.repeat(LEASES);
@@ -86,6 +95,8 @@ pub fn stack() -> io::Result<Figures> {
         drop: used(proved, &bare, drop, byte, 0)?,
         load: used(proved, &load.world, load.request, &load.buffer, 0)?,
         dump: used(proved, &dump.world, dump.request, &dump.buffer, 0)?,
+        page_out: used(proved, &out.world, out.request, &out.buffer, 0)?,
+        page_in: used(proved, &back.world, back.request, &back.buffer, 0)?,
         leased: used(Call::Leased(served::proved_leased), &deep, read, byte, 0)?,
     })
 }

@@ -110,16 +110,20 @@ fn grown(part: &Part, measured: &[Vec<Measured>]) -> Option<Vec<String>> {
     Some(vec![last.case.name.into(), unit.into(), proved, model])
 }
 
-/// How many bytes of text go through in a second, of a load or a dump.
+/// How many bytes go through in a second: of text, of a load or a dump; of a segment that is paged.
 fn speed(measured: &Measured) -> Option<Vec<String>> {
     let Case { name, of, limit, .. } = &measured.case;
-    let Limit::Text(bytes) = limit else { return None };
+    let (bytes, what) = match limit {
+        Limit::Text(bytes) => (*bytes, "text"),
+        Limit::Out(range) | Limit::In(range) => (range.len(), "memory"),
+        _ => return None,
+    };
     let speed = |subject| {
         let second = measured.nanoseconds(subject).median / 1e9;
-        format!("{:.0}", *bytes as f64 / second / 1e6)
+        format!("{:.0}", bytes as f64 / second / 1e6)
     };
     let subjects = [Subject::Proved, Subject::Model, Subject::Limit].map(speed);
-    let row = [name.to_string(), of.clone(), "text".to_string()];
+    let row = [name.to_string(), of.clone(), what.to_string()];
     Some(row.into_iter().chain(subjects).collect())
 }
 

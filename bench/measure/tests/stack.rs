@@ -6,7 +6,8 @@ use measure::{stack, BOUND};
 fn the_deepest_calls_stay_within_the_bound() {
     let figures = stack().expect("a thread on a stack of our own");
     assert!(figures.shallowest < figures.walk, "{figures}");
-    for most in [figures.walk, figures.drop, figures.load, figures.dump, figures.leased] {
+    let images = [figures.load, figures.dump, figures.page_out, figures.page_in];
+    for most in [figures.walk, figures.drop, figures.leased].into_iter().chain(images) {
         assert!(most <= BOUND, "{figures}");
     }
 }

@@ -37,6 +37,13 @@ fn every_operation_and_every_access_has_a_row() {
             assert_eq!(text.lines().filter(|line| row(line)).count(), 2, "{way} {bytes}");
         }
     }
+    for way in ["page-out", "page-in"] {
+        for bytes in [64, 4_096, 65_536, 1_048_576] {
+            let row =
+                |line: &str| line.starts_with(way) && line.contains(&format!(" {bytes} bytes "));
+            assert_eq!(text.lines().filter(|line| row(line)).count(), 2, "{way} {bytes}");
+        }
+    }
     for leases in [0, 1, 64] {
         let of = format!(" {leases} leases ");
         let row = |line: &str| line.starts_with("read, leased") && line.contains(&of);

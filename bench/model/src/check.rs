@@ -62,6 +62,9 @@ pub fn words(request: &Request, buffer: usize) -> Result<(), Refusal> {
         // and dumps count as accesses."
         operation::LOAD => plain(request.token) && task && minute && buffer <= TEXT_LIMIT,
         operation::DUMP => plain(request.token) && task && minute,
+        // 02, paper 6: "two tokens go as a merge's". The buffer is for place 8.
+        operation::PAGE_OUT => plain(request.token) && task && encoding,
+        operation::PAGE_IN => plain(request.token) && plain(request.second) && task && encoding,
         _ => false,
     };
     need(sound, Refusal::Request)

@@ -8,11 +8,17 @@
 //! | 1 | length's lower 3, count 16, holder's upper 45 | parent's lower 35, length's upper 29 |
 //! | 2 | holder's lower 10, user's upper 54 | length's lower 3, count 16, 45 zeros |
 //! | 3 | user's lower 10, R, W, X, Locked, Lockable, CoW, tag 16, nonce 32 | 10 zeros, the same |
+//!
+//! 02, paper 6, adds the paged one. Its word 0 is type 3, page-file number's
+//! upper 61; word 1 the number's lower 3, length 32, 29 zeros; word 2 10 zeros,
+//! user's upper 54; word 3 is a direct one's.
 
 use crate::token;
 
 const DIRECT: u64 = 1;
 const INDIRECT: u64 = 2;
+const PAGED: u64 = 3;
+const LOW_29: u64 = (1 << 29) - 1;
 const LOW_45: u64 = (1 << 45) - 1;
 
 // The six bits above the tag.
@@ -27,6 +33,7 @@ pub struct Raw([u64; 4]);
 /// A well-formed entry in use.
 #[derive(Clone, Copy, Debug, PartialEq, Eq)]
 pub struct Entry {
+    /// A paged entry has neither base nor count: both are 0 here.
     pub base: u32,
     pub length: u32,
     pub count: u16,
@@ -41,12 +48,22 @@ pub enum Kind {
     Direct(Direct),
     /// The parent's token in encoding 1.
     Indirect(u64),
+    Paged(Paged),
 }
 
 #[derive(Clone, Copy, Debug, PartialEq, Eq)]
 pub struct Direct {
     /// Zero while unlocked, and only then.
     pub holder: u64,
+    pub user: u64,
+    pub lockable: bool,
+}
+
+/// 02, paper 6: "type, page-file number 64 as requested, length 32, 39 zeros,
+/// user 64, the rest as direct, unlocked".
+#[derive(Clone, Copy, Debug, PartialEq, Eq)]
+pub struct Paged {
+    pub page_file: u64,
     pub user: u64,
     pub lockable: bool,
 }
@@ -78,6 +95,18 @@ impl Raw {
         self.0[0] >> 61 == 0
     }
 
+    /// Type 3, well-formed or not.
+    #[inline]
+    pub fn is_paged(self) -> bool {
+        self.0[0] >> 61 == PAGED
+    }
+
+    /// The six bits above the tag.
+    #[inline]
+    fn flags(self) -> u8 {
+        (self.0[3] >> 48) as u8 & 0x3F
+    }
+
     /// Tag and nonce are "at the same places" in every type.
     #[inline]
     pub fn tag(self) -> u16 {
@@ -104,11 +133,11 @@ impl Raw {
     /// The fields, or none if the entry is free or "Ill-formed: type above 2,
     /// length 0, an end past memory, a one where this section says zero, a
     /// parent not in encoding 1, or a holder that is zero while Locked or
-    /// nonzero while not".
+    /// nonzero while not". Type 3 has a rule of its own.
     #[inline(always)]
     pub fn fields(self, memory_length: u64) -> Option<Entry> {
         let [a, b, c, d] = self.0;
-        let flags = (d >> 48) as u8 & 0x3F;
+        let flags = self.flags();
         let (length, count, kind) = match a >> 61 {
             DIRECT => {
                 let holder = (b & LOW_45) << 10 | c >> 54;
@@ -128,6 +157,7 @@ impl Raw {
                 }
                 ((b << 3 | c >> 61) as u32, (c >> 45) as u16, Kind::Indirect(parent))
             }
+            PAGED => return self.paged_fields(),
             _ => return None,
         };
         let base = (a >> 29) as u32;
@@ -138,6 +168,32 @@ impl Raw {
         }
         let (permissions, tag, nonce) = (flags >> 3, self.tag(), self.nonce());
         Some(Entry { base, length, count, permissions, tag, nonce, kind })
+    }
+
+    /// 02, paper 6: "Type 3 is ill-formed only at length 0 or with a one where
+    /// zero belongs": in the 39 zeros, in Locked ("unlocked") and in CoW.
+    fn paged_fields(self) -> Option<Entry> {
+        let [a, b, c, d] = self.0;
+        let flags = self.flags();
+        let ones = b & LOW_29 | c >> 54 | u64::from(flags & (LOCKED | COPY_ON_WRITE));
+        let length = (b >> 29) as u32;
+        if length == 0 || ones != 0 {
+            return None;
+        }
+        let paged = Paged {
+            page_file: a << 3 | b >> 61,
+            user: c << 10 | d >> 54,
+            lockable: flags & LOCKABLE != 0,
+        };
+        Some(Entry {
+            base: 0,
+            length,
+            count: 0,
+            permissions: flags >> 3,
+            tag: self.tag(),
+            nonce: self.nonce(),
+            kind: Kind::Paged(paged),
+        })
     }
 }
 
@@ -150,10 +206,11 @@ impl Entry {
         let low = u64::from(self.tag) << 32 | u64::from(self.nonce);
         let flag = |flags: u8| u64::from(flags) << 48;
         let rights = flag((self.permissions & 7) << 3);
+        let lockable = |lockable: bool| if lockable { flag(LOCKABLE) } else { 0 };
         match self.kind {
-            Kind::Direct(Direct { holder, user, lockable }) => {
+            Kind::Direct(Direct { holder, user, lockable: may }) => {
                 let locked = if holder != 0 { flag(LOCKED) } else { 0 };
-                let lockable = if lockable { flag(LOCKABLE) } else { 0 };
+                let lockable = lockable(may);
                 Raw([
                     DIRECT << 61 | base | length >> 3,
                     length << 61 | count | holder >> 10 & LOW_45,
@@ -166,6 +223,12 @@ impl Entry {
                 parent << 29 | length >> 3,
                 length << 61 | count,
                 rights | low,
+            ]),
+            Kind::Paged(Paged { page_file, user, lockable: may }) => Raw([
+                PAGED << 61 | page_file >> 3,
+                page_file << 61 | length << 29,
+                user >> 10,
+                user << 54 | rights | lockable(may) | low,
             ]),
         }
     }
@@ -229,6 +292,7 @@ mod tests {
             let holder = if seed & 1 == 0 { next(&mut seed) >> 9 } else { 0 };
             let lockable = next(&mut seed) >> 63;
             let locked = u64::from(holder != 0);
+            let page_file = next(&mut seed);
             let direct = bytes(&[
                 (1, 3),
                 (base, 32),
@@ -238,6 +302,19 @@ mod tests {
                 (user, 64),
                 (rights, 3),
                 (locked, 1),
+                (lockable, 1),
+                (0, 1),
+                (tag, 16),
+                (nonce, 32),
+            ]);
+            let paged = bytes(&[
+                (3, 3),
+                (page_file, 64),
+                (length, 32),
+                (0, 39),
+                (user, 64),
+                (rights, 3),
+                (0, 1),
                 (lockable, 1),
                 (0, 1),
                 (tag, 16),
@@ -256,12 +333,18 @@ mod tests {
                 (tag, 16),
                 (nonce, 32),
             ]);
-            let kind = Kind::Direct(Direct { holder, user, lockable: lockable == 1 });
-            for (part, kind) in [(direct, kind), (indirect, Kind::Indirect(parent))] {
+            let lockable = lockable == 1;
+            let kinds = [
+                (direct, Kind::Direct(Direct { holder, user, lockable })),
+                (indirect, Kind::Indirect(parent)),
+                (paged, Kind::Paged(Paged { page_file, user, lockable })),
+            ];
+            for (part, kind) in kinds {
+                let in_memory = !matches!(kind, Kind::Paged(_));
                 let entry = Entry {
-                    base: base as u32,
+                    base: if in_memory { base as u32 } else { 0 },
                     length: length as u32,
-                    count: count as u16,
+                    count: if in_memory { count as u16 } else { 0 },
                     permissions: rights as u8,
                     tag: tag as u16,
                     nonce: nonce as u32,
@@ -322,6 +405,21 @@ mod tests {
                 (3, 32),
             ])
         };
+        let paged = |length: u64, zeros: u64, locked: u64, cow: u64| {
+            bytes(&[
+                (3, 3),
+                (u64::MAX, 64),
+                (length, 32),
+                (zeros, 39),
+                (u64::MAX, 64),
+                (7, 3),
+                (locked, 1),
+                (1, 1),
+                (cow, 1),
+                (9, 16),
+                (3, 32),
+            ])
+        };
         let good = |part: [u8; 32]| Raw::load(&part).fields(16).is_some();
         assert!(good(direct(8, 0, 0, 0)) && good(direct(8, 1, 1, 0)) && good(indirect(1, 0, 0)));
         assert!(!good(direct(0, 0, 0, 0)));
@@ -338,10 +436,20 @@ mod tests {
         for flags in [1, 2, 4] {
             assert!(!good(indirect(1, 0, flags)));
         }
-        for kind in 3..8 {
-            let mut part = direct(8, 0, 0, 0);
-            part[0] = part[0] & 0x1F | kind << 5;
-            assert!(!good(part));
+        for kind in 4..8 {
+            for mut part in [direct(8, 0, 0, 0), indirect(1, 0, 0), paged(8, 0, 0, 0)] {
+                part[0] = part[0] & 0x1F | kind << 5;
+                assert!(!good(part));
+            }
+        }
+        // A paged entry has no end that could be past memory.
+        for length in [1, 16, 17, u32::MAX.into()] {
+            assert!(good(paged(length, 0, 0, 0)));
+        }
+        assert!(!good(paged(0, 0, 0, 0)));
+        assert!(!good(paged(8, 0, 1, 0)) && !good(paged(8, 0, 0, 1)));
+        for bit in 0..39 {
+            assert!(!good(paged(8, 1 << bit, 0, 0)));
         }
         let end = bytes(&[
             (1, 3),

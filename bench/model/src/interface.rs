@@ -7,7 +7,8 @@ pub struct Request {
     /// The token; for a reset the first key word.
     pub token: u64,
     /// A merge's second token, a derive's offset, the minute of an access (a load
-    /// or a dump too); for a reset the second key word.
+    /// or a dump too), a page-out's page-file number, a page-in's donor; for a
+    /// reset the second key word.
     pub second: u64,
     /// The task; for a reset the first nonce.
     pub task: u64,

@@ -17,6 +17,7 @@ mod lease;
 mod lock;
 mod machine;
 pub mod operation;
+mod paging;
 mod permissions;
 mod references;
 mod refusal;
@@ -81,6 +82,8 @@ fn run(
         operation::REVOKE => machine.revoke(request),
         operation::LOAD => machine.load(request, buffer),
         operation::DUMP => machine.dump(request, buffer),
+        operation::PAGE_OUT => machine.page_out(request, buffer),
+        operation::PAGE_IN => machine.page_in(request, buffer),
         _ => Err(Refusal::Request),
     }
 }

@@ -15,3 +15,5 @@ pub const UNLOCK: u64 = 11;
 pub const REVOKE: u64 = 12;
 pub const LOAD: u64 = 13;
 pub const DUMP: u64 = 14;
+pub const PAGE_OUT: u64 = 15;
+pub const PAGE_IN: u64 = 16;

@@ -20,6 +20,7 @@ pub enum Refusal {
     Room,
     Closed,
     Lease,
+    Paged,
 }
 
 /// "for 3 and 4 whether the named entry or an ancestor was the bad one"
@@ -48,6 +49,7 @@ impl Refusal {
             Refusal::Room => 14,
             Refusal::Closed => 15,
             Refusal::Lease => 16,
+            Refusal::Paged => 17,
         }
     }
 

@@ -7,18 +7,20 @@ use crate::permissions::{self, lie_within};
 use crate::refusal::{need, Refusal};
 use crate::table::Met;
 
-/// Place 6: "create, merge, revoke of an indirect entry".
+/// Place 6: "create, merge, revoke of an indirect entry"; 02, paper 6, of a paged
+/// donor too.
 #[inline]
-fn need_direct(met: &Met) -> Result<Direct, Refusal> {
+pub fn need_direct(met: &Met) -> Result<Direct, Refusal> {
     match met.entry.kind {
         Kind::Direct(direct) => Ok(direct),
-        Kind::Indirect(_) => Err(Refusal::Kind),
+        Kind::Indirect(_) | Kind::Paged(_) => Err(Refusal::Kind),
     }
 }
 
-/// Place 9: "create or merge when locked or count not 0".
+/// Place 9: "create or merge when locked or count not 0"; 02, paper 6: "Entry and
+/// donor must be unlocked at count 0".
 #[inline]
-fn at_rest(entry: &Entry, direct: &Direct) -> bool {
+pub fn at_rest(entry: &Entry, direct: &Direct) -> bool {
     direct.holder == 0 && entry.count == 0
 }
 

@@ -93,22 +93,40 @@ impl<'a> Table<'a> {
         free(after, end).or_else(|| free(1, after))
     }
 
-    /// Places 2 and 3 for the named entry: "number beyond the table, free, or
-    /// another tag", then "ill-formed".
+    /// Place 2: "number beyond the table, free, or another tag".
     #[inline(always)]
-    pub fn named(&self, token: Token) -> Result<Met, Refusal> {
+    fn tagged(&self, token: Token) -> Result<(usize, Raw), Refusal> {
         let (number, raw) = self.used(token.number).ok_or(Refusal::Entry)?;
         need(raw.tag() == token.tag, Refusal::Entry)?;
+        Ok((number, raw))
+    }
+
+    /// Place 3 for the named entry.
+    #[inline(always)]
+    fn judged(&self, (number, raw): (usize, Raw)) -> Result<Met, Refusal> {
         let entry = raw.fields(self.memory_length);
         Ok(Met { number, entry: entry.ok_or(Refusal::IllFormed(Place::Named))? })
     }
 
+    /// Places 2 and 3 for the named entry. 02, paper 6: "17 a paged entry in any
+    /// operation but 'in', after its tag matched", so before its form is judged.
+    #[inline(always)]
+    pub fn named(&self, token: Token) -> Result<Met, Refusal> {
+        let tagged = self.tagged(token)?;
+        need(!tagged.1.is_paged(), Refusal::Paged)?;
+        self.judged(tagged)
+    }
+
     /// "A parent beyond the table, free, with another tag or too high a nonce
-    /// is a missing link, ill-formed or not."
+    /// is a missing link, ill-formed or not." 02, paper 6: "a paged parent is a
+    /// missing link".
     #[inline(always)]
     fn link(&self, parent: u64, child_nonce: u32) -> Option<(usize, Raw)> {
         let token = Token::unpack(parent);
         let (number, raw) = self.used(token.number)?;
+        if raw.is_paged() {
+            return None;
+        }
         (raw.tag() == token.tag && raw.nonce() < child_nonce).then_some((number, raw))
     }
 
@@ -134,6 +152,8 @@ impl<'a> Table<'a> {
                 // "A direct entry is its own owner."
                 Kind::Direct(direct) => return Ok(Owner { number, entry, direct }),
                 Kind::Indirect(parent) => parent,
+                // Not met: a named one was turned away, a parent is no link.
+                Kind::Paged(_) => return Err(Refusal::Paged),
             };
             let (above, raw) =
                 self.link(parent, entry.nonce).ok_or(Refusal::Dead(holds_the_link))?;
@@ -156,5 +176,16 @@ impl<'a> Table<'a> {
         let (named, owner) = self.line(word)?;
         need(!owner.locked_for_other(task), Refusal::Lock)?;
         Ok((named, owner))
+    }
+
+    /// Places 2 to 5 for either token of a page-in, paged or not. A paged entry
+    /// has neither parent nor lock.
+    pub fn line_to_page_in(&self, word: u64, task: u64) -> Result<Met, Refusal> {
+        let named = self.judged(self.tagged(Token::unpack(word))?)?;
+        if !matches!(named.entry.kind, Kind::Paged(_)) {
+            let owner = self.owner(named)?;
+            need(!owner.locked_for_other(task), Refusal::Lock)?;
+        }
+        Ok(named)
     }
 }

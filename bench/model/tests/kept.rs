@@ -3,13 +3,11 @@
 //! A tag has 16 bits, so a nonce comes to a wanted one about once in 65,536
 //! times. The keys below are the first that do: the first key word counted up
 //! from 0, the second 0. `the_keys_are_the_first_that_do` finds them again.
-#![allow(deprecated)]
 
 mod common;
-use common::{freed, record, Dice, Rig, SPENT};
+use common::{freed, record, tag_under, Dice, Rig, SPENT};
 use model::operation::*;
 use model::{Answer, Request};
-use std::hash::{Hasher, SipHasher};
 
 fn granted(answer: Answer) -> Answer {
     assert_eq!(answer.refusal, 0);
@@ -21,19 +19,6 @@ fn after_reset(entries: usize, key: u64, first: u64) -> Rig {
     let mut rig = Rig::bare(64, entries);
     granted(rig.reset(key, 0, first));
     rig
-}
-
-/// The tag that what stands at a number would have under a nonce, by the
-/// library's SipHash-2-4: "the entry as issued with tag 0, then the number as
-/// 8 bytes, low byte first".
-fn tag_under(rig: &Rig, number: usize, nonce: u64) -> u64 {
-    let mut entry = rig.entry(number).to_vec();
-    entry[26..28].fill(0);
-    entry[28..].copy_from_slice(&(nonce as u32).to_be_bytes());
-    let mut hasher = SipHasher::new_with_keys(rig.state.key0, rig.state.key1);
-    hasher.write(&entry);
-    hasher.write(&(number as u64).to_le_bytes());
-    hasher.finish() & 0xFFFF
 }
 
 fn create(token: u64, length: u64) -> Request {
@@ -575,7 +560,7 @@ fn a_kept_tag_opens_nothing() {
     rig.set_count(1, 1);
     granted(rig.simple(DROP, upper));
     assert_eq!((rig.token(1), rig.count(0)), (upper, 0));
-    for operation in READ..=DUMP {
+    for operation in READ..=PAGE_IN {
         let request = Request {
             operation,
             token: upper,

@@ -105,6 +105,12 @@ fn request(term: &Term, minute: u64) -> Request {
         "revoke" => Request { operation: REVOKE, encoding: n[1], ..empty },
         "load" => Request { operation: LOAD, second: minute, task: n[1], ..empty },
         "dump" => Request { operation: DUMP, second: minute, task: n[1], ..empty },
+        "pageOut" => {
+            Request { operation: PAGE_OUT, task: n[1], second: n[2], encoding: n[3], ..empty }
+        }
+        "pageIn" => {
+            Request { operation: PAGE_IN, second: n[1], task: n[2], encoding: n[3], ..empty }
+        }
         _ => panic!("no request: {term:?}"),
     }
 }
@@ -165,6 +171,12 @@ fn carried(effect: (&str, &[Term]), memory: &mut [u8], buffer: &mut [u8]) {
             let (start, stored) = (start.number() as usize, bytes(stored));
             memory[start..start + stored.len()].copy_from_slice(&stored);
         }
+        ("takes", [start, length]) => {
+            let start = start.number() as usize;
+            let taken = &mut memory[start..start + length.number() as usize];
+            buffer.copy_from_slice(taken);
+            taken.fill(0);
+        }
         ("text", [start, length]) => {
             let start = start.number() as usize;
             let text = text(&memory[start..start + length.number() as usize]);
@@ -215,7 +227,7 @@ fn sessions_are_served_as_recorded() {
     let sessions: Vec<&Term> = lists.into_iter().flatten().collect();
     let rows: usize =
         sessions.iter().map(|name| replay(&definitions[name.word()], &definitions)).sum();
-    assert_eq!((sessions.len(), rows), (11, 293));
+    assert_eq!((sessions.len(), rows), (12, 365));
 }
 
 #[test]

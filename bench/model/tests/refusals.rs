@@ -124,7 +124,7 @@ fn words_of_a_request() {
         [CREATE, MERGE, DERIVE, EXECUTE_ONLY, REVOKE]
     );
     assert_eq!(refusing(&|request| request.user = bad), []);
-    for operation in [15, 16, 1 << 32, bad] {
+    for operation in [17, 18, 1 << 32, bad] {
         assert_eq!(rig.ask_with(Request { operation, ..Request::default() }, &mut [0]).refusal, 1);
     }
 }

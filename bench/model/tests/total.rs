@@ -16,7 +16,7 @@ fn any_request(dice: &mut Dice, tokens: &[u64]) -> Request {
         1 => u64::MAX - dice.below(3),
         _ => dice.below(end),
     };
-    let operation = if dice.below(50) == 0 { dice.below(20) } else { 1 + dice.below(14) };
+    let operation = if dice.below(50) == 0 { dice.below(20) } else { 1 + dice.below(16) };
     let (one, other) = (token(dice), token(dice));
     Request {
         operation,
@@ -114,11 +114,31 @@ fn neighbour(rig: &Rig, token: u64) -> u64 {
     rig.token(next.unwrap_or(0))
 }
 
+/// A page-out of a direct entry, or a page-in whose tokens fit, if the table has
+/// such entries.
+fn paging(rig: &Rig, dice: &mut Dice, request: Request) -> Request {
+    let kind = if request.operation == PAGE_OUT { 1 } else { 3 };
+    let first = (0..rig.entries()).filter(|&number| rig.kind(number) == kind);
+    let mut pairs = Vec::new();
+    for first in first {
+        let fits = |&donor: &usize| {
+            rig.kind(donor) == 1 && (kind == 1 || rig.length(donor) == rig.length(first))
+        };
+        let donors = (0..rig.entries()).filter(fits);
+        pairs.extend(donors.map(|donor| (rig.token(first), rig.token(donor))));
+    }
+    if pairs.is_empty() {
+        return request;
+    }
+    let (token, second) = pairs[dice.below(pairs.len() as u64) as usize];
+    Request { token, second, ..request }
+}
+
 #[test]
 fn lists_from_reset() {
     let mut dice = Dice(7);
-    let mut seen = [0u64; 17];
-    let mut granted = [0u64; 15];
+    let mut seen = [0u64; 18];
+    let mut granted = [0u64; 17];
     for round in 0..60 {
         let (memory, entries) = (1 + dice.below(96) as usize, 2 + dice.below(9) as usize);
         let mut rig = Rig::bare(memory, entries);
@@ -142,6 +162,11 @@ fn lists_from_reset() {
             }
             rig.leases = any_leases(&mut dice, &tokens);
             let mut buffer = any_buffer(&mut dice, &request, 12);
+            if [PAGE_OUT, PAGE_IN].contains(&request.operation) && dice.below(8) != 0 {
+                request = paging(&rig, &mut dice, request);
+                let named = (request.token >> 32 & 0x3FFF) as usize % entries;
+                buffer.resize(rig.length(named) as usize, dice.word() as u8);
+            }
             let answer = rig.ask_with(request, &mut buffer);
             // 02, paper 3: "the kept total equals a full count".
             assert_eq!(rig.state.total, rig.free_numbers());
@@ -157,7 +182,7 @@ fn lists_from_reset() {
     }
     // Ill-formed entries are not reached from reset; all else is.
     assert_eq!(seen[3], 0);
-    for refusal in (0..17).filter(|&refusal| refusal != 3) {
+    for refusal in (0..18).filter(|&refusal| refusal != 3) {
         assert!(seen[refusal] > 0, "{refusal}: {seen:?}");
     }
     assert!(granted[1..].iter().all(|&times| times > 0), "{granted:?}");
@@ -166,7 +191,7 @@ fn lists_from_reset() {
 #[test]
 fn tables_and_states_that_nobody_reached() {
     let mut dice = Dice(8);
-    let mut seen = [0u64; 17];
+    let mut seen = [0u64; 18];
     for _ in 0..30_000 {
         let entries = dice.below(6) as usize;
         let mut rig = Rig::bare(dice.below(40) as usize, entries);
@@ -182,7 +207,7 @@ fn tables_and_states_that_nobody_reached() {
         }
         rig.state.total = if dice.below(30) == 0 { dice.word() } else { dice.below(inside) };
         for number in 0..entries {
-            let kind = dice.one_of(&[0, 1, 1, 2, 2, 2, 2, dice.0 >> 61]);
+            let kind = dice.one_of(&[0, 1, 1, 1, 2, 2, 2, 2, 3, dice.0 >> 61]);
             rig.set(number, 0, 3, kind);
             rig.set(number, 3, 32, dice.below(10));
             let length = 1 + dice.below(20);
@@ -194,6 +219,8 @@ fn tables_and_states_that_nobody_reached() {
                 rig.set(number, 83, 55, locked * (1 + dice.below(2)));
                 rig.set(number, 205, 1, locked);
                 rig.set(number, 206, 1, dice.below(2));
+            } else if kind == 3 {
+                rig.set_paged(number, length);
             } else {
                 rig.set(number, 35, 64, 1 << 62 | dice.below(2) << 46 | dice.below(5));
                 rig.set(number, 99, 32, length);
@@ -237,7 +264,7 @@ fn noise() {
             _ => dice.word(),
         };
         let request = Request {
-            operation: dice.below(17),
+            operation: dice.below(19),
             token: word(&mut dice),
             second: word(&mut dice),
             task: word(&mut dice),

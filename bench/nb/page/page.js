@@ -10,7 +10,7 @@ const slider = byId("slider");
 const NEAR = 12;
 // The least width of a part of the strip in pixels: as long as there is room, and always.
 const [LEAST, NARROWEST] = [96, 7];
-const APART = ["dead", "under an ill-formed entry", "ill-formed"];
+const APART = ["paged out", "dead", "under an ill-formed entry", "ill-formed"];
 
 let shown = { step: -1, rows: [] };
 

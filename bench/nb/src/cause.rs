@@ -89,7 +89,8 @@ fn of_argument(argument: Argument, request: &Words) -> Option<String> {
             (permissions > 7).then(|| format!("the permissions {permissions} are above 7"))
         }
         Argument::Encoding => (encoding > 3).then(|| format!("the encoding {encoding} is above 3")),
-        Argument::Address | Argument::Key | Argument::Offset | Argument::User => None,
+        Argument::Address | Argument::Key | Argument::User => None,
+        Argument::Offset | Argument::PageFile => None,
     }
 }
 

@@ -2,15 +2,15 @@
 //! leases and what stood before, the nonces left among that.
 
 use crate::{hex, shift};
-use bridge::{text_length, Buffer, Check, Operation, Words, TEXT_BYTES};
-use session::entry::Entry;
+use bridge::{text_length, Argument, Buffer, Check, Operation, Words, TEXT_BYTES};
+use session::entry::{self, Entry};
 use session::play::Played;
 use session::token::Token;
 
 /// The next nonce once all are used.
 const SPENT: u64 = 1 << 32;
 
-/// The note on a refused load or dump, on leases or nonces; none where there is nothing to tell.
+/// The note on a refused load, dump or paging, on leases or nonces; none where there is nothing to tell.
 pub fn note(played: &Played) -> Option<String> {
     let check = Check::of(played.reply.refusal)?;
     let Words { token, second: minute, .. } = played.request;
@@ -24,6 +24,8 @@ pub fn note(played: &Played) -> Option<String> {
         (Buffer::Text, Check::Malformed | Check::Checksum) => of_line(check, &played.buffer),
         (Buffer::Text, Check::Bounds) => of_reach(played),
         (Buffer::Front, Check::Room) => of_room(played),
+        (Buffer::Out | Buffer::In, Check::Bounds) => of_whole(played),
+        (Buffer::Out | Buffer::In, Check::Kind) => of_kind(played),
         _ => None,
     }
 }
@@ -32,8 +34,10 @@ pub fn note(played: &Played) -> Option<String> {
 /// passed over.
 fn of_nonces(played: &Played) -> String {
     let left = SPENT.saturating_sub(played.before.state.next_nonce);
-    let (created, taken) = (Operation::Create as u64, played.request.length);
-    let two = played.request.operation == created && length(played) != Some(taken);
+    let two = match Operation::of(played.request.operation) {
+        Some(Operation::Create) => length(played) != Some(played.request.length),
+        operation => operation == Some(Operation::PageOut),
+    };
     match (left, if two { 2 } else { 1 }) {
         (0, _) => "none is left".to_string(),
         (left, needed) if left < needed => format!("{left} left, and {needed} are needed"),
@@ -64,8 +68,43 @@ fn of_room(played: &Played) -> Option<String> {
     (text > lent).then(|| format!("the text has {text} bytes, and the buffer {lent}"))
 }
 
+/// The lengths that paging wants to be equal.
+fn of_whole(played: &Played) -> Option<String> {
+    let (entry, lent) = (length(played)?, played.buffer.len());
+    match second(played).map(|donor| donor.length()) {
+        None => Some(format!("the segment has {entry} bytes, and the buffer {lent}")),
+        Some(donor) => {
+            Some(format!("the entry has {entry} bytes, the donor {donor}, and the buffer {lent}"))
+        }
+    }
+}
+
+/// Which entry of a page-in is of the wrong kind.
+fn of_kind(played: &Played) -> Option<String> {
+    let donor = second(played)?;
+    Some(match (entry(played)?.kind(), donor.kind()) {
+        (entry::PAGED, entry::PAGED) => "the donor is paged out".to_string(),
+        (entry::PAGED, _) => "the donor is no segment".to_string(),
+        _ => "the entry is not paged out".to_string(),
+    })
+}
+
 /// How many bytes the named entry has.
 fn length(played: &Played) -> Option<u64> {
-    let number = Token::unpack(played.request.token).number;
-    Some(Entry::at(&played.before.table, usize::try_from(number).ok()?)?.length())
+    entry(played).map(|entry| entry.length())
+}
+
+/// The named entry.
+fn entry(played: &Played) -> Option<Entry> {
+    at(played, played.request.token)
+}
+
+/// The entry of the second token, if there is one.
+fn second(played: &Played) -> Option<Entry> {
+    let operation = Operation::of(played.request.operation)?;
+    operation.takes(Argument::SecondToken).then(|| at(played, played.request.second))?
+}
+
+fn at(played: &Played, token: u64) -> Option<Entry> {
+    Entry::at(&played.before.table, usize::try_from(Token::unpack(token).number).ok()?)
 }

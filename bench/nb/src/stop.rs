@@ -2,7 +2,7 @@
 //! answer tells a number, and for some whether it was the named entry or an ancestor.
 
 use crate::map::{judge, Judged, Link};
-use bridge::{Check, Operation, Words};
+use bridge::{Argument, Check, Operation, Words};
 use session::entry::{self, Entry, Field};
 use session::text::number_text;
 use session::token::Token;
@@ -25,7 +25,7 @@ fn tokens(request: &Words) -> Vec<Token> {
     let Some(operation) = Operation::of(request.operation).filter(|one| one.names_entry()) else {
         return Vec::new();
     };
-    let second = (operation == Operation::Merge).then_some(request.second);
+    let second = operation.takes(Argument::SecondToken).then_some(request.second);
     [request.token].into_iter().chain(second).map(Token::unpack).collect()
 }
 
@@ -41,11 +41,15 @@ pub fn stop(request: &Words, table: &[u8], memory: usize, refusal: u64) -> Optio
         Check::IllFormed => first(&|token| table.ill_formed(token)),
         Check::Dead => first(&|token| table.dead(token)),
         Check::Lock => first(&|token| table.locked(token, request.task)),
+        Check::Paged => first(&|token| table.paged(token)),
+        Check::Kind if operation == Operation::PageIn => table.not_to_page_in(&tokens),
         Check::Kind => first(&|token| table.derived(token)),
         Check::Right => table.owned(operation == Operation::Lock, tokens.first()?),
-        // A merge's second does not begin where its first ends.
+        // A merge's second does not begin where its first ends; a page-in's donor may be as long as its
+        // entry, and the buffer not.
         Check::Bounds => Some(itself(tokens.last()?)),
         Check::Standing if operation == Operation::Merge => table.in_use(&tokens),
+        Check::Standing if operation == Operation::PageIn => Some(itself(tokens.last()?)),
         Check::Standing => table.owned(operation == Operation::Unlock, tokens.first()?),
         // These are about no entry.
         Check::Request | Check::Numbers | Check::Nonces => None,
@@ -127,6 +131,20 @@ impl Table<'_> {
 
     fn derived(&self, token: &Token) -> Option<Stop> {
         matches!(self.judged(token.number)?, Judged::Indirect(_)).then(|| itself(token))
+    }
+
+    fn paged(&self, token: &Token) -> Option<Stop> {
+        let paged = self.entry(token.number).kind() == entry::PAGED;
+        paged.then(|| itself(token))
+    }
+
+    /// The first entry, if it is not paged out, or the donor, if it is no segment.
+    fn not_to_page_in(&self, tokens: &[Token]) -> Option<Stop> {
+        let [first, donor] = tokens else { return None };
+        match self.judged(first.number)? {
+            Judged::Paged => Some(itself(donor)),
+            _ => Some(itself(first)),
+        }
     }
 
     /// The named entry, or the owner of its line.

@@ -75,7 +75,7 @@ fn bad_words_are_status_2() {
         assert_eq!(status, 2, "{words:?}");
         assert!(error.contains(told), "{words:?}: {error}");
     };
-    holds(&["--against", "echo hello", "-"], "expected northbridge 4");
+    holds(&["--against", "echo hello", "-"], "expected northbridge 5");
     holds(&["--against", "./no-such-simulator 2> /dev/null", "-"], "no-such-simulator");
     holds(&["--against", "cat", "--by", "model", "-"], "expected --by or --against");
     holds(&["--against"], "a value behind --against");

@@ -94,6 +94,8 @@ fn every_step_shows_what_the_map_says() {
         "handed-ill-formed",
         "handed-bad-ancestors",
         "handed-overlapping",
+        "page-round-trip",
+        "paged-parent",
         "deep-line",
         "sizes-most-entries",
         "sizes-no-memory",

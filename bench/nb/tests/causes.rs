@@ -123,7 +123,10 @@ fn each_cause_has_its_words() {
     holds("derive root length 1 permissions 8", "the permissions 8 are above 7");
     holds("revoke root encoding 4", "the encoding 4 is above 3");
     holds("reset nonce 0", "the first nonce 0 is not from 1 to 4294967295");
-    holds("operation 15", "there is no operation 15");
+    holds("operation 17", "there is no operation 17");
+    holds("page-in root root+1 00", second);
+    holds("page-out root+1 1", "the token has an offset, 1, which only an access may have");
+    holds("page-out root 64 encoding 4", "the encoding 4 is above 3");
     let minute = "the minute 10080 is not one of the week, 0 to 10079";
     holds("read root 1 minute 10080", minute);
     holds("load root :00000001FF minute 10080", minute);
@@ -170,6 +173,31 @@ fn nonces_have_their_words() {
     let spent = "derive root length 9 permissions R -> 0\nderive root length 8 permissions R";
     holds(last, spent, "none is left");
     holds(last, "derive root length 9 permissions R -> 0\nrevoke root", "none is left");
+}
+
+/// What paging is refused for, in words.
+#[test]
+fn paging_has_its_words() {
+    let holds = |lines: &str, expected: &str| {
+        let reset = "memory 16 entries 4\nreset nonce 1 -> 0";
+        let answer = answer(&format!("{reset}\n{lines}\n"));
+        assert_eq!(answer, expected, "{lines}");
+    };
+    let short = "8 out of bounds: the segment has 16 bytes, and the buffer 15";
+    holds("page-out root 15", short);
+    let out = |line: &str| format!("page-out root 16 -> 0 as paged left\n{line}");
+    holds(&out("clone paged"), "17 paged out");
+    let not_paged = "6 wrong kind of entry: the entry is not paged out";
+    holds(&out("page-in left paged 00*16"), not_paged);
+    let paged = "6 wrong kind of entry: the donor is paged out";
+    holds(&out("page-in paged paged 00*16"), paged);
+    let derived = "derive left length 16 permissions R -> 0 as child\npage-in paged child 00*16";
+    holds(&out(derived), "6 wrong kind of entry: the donor is no segment");
+    let cut = "create left length 8 permissions R -> 0 as part rest\npage-in paged part 00*9";
+    let lengths = "8 out of bounds: the entry has 16 bytes, the donor 8, and the buffer 9";
+    holds(&out(cut), lengths);
+    let last = "memory 16 entries 4\nreset nonce 4294967295 -> 0\npage-out root 16";
+    assert_eq!(answer(last), "11 too few nonces: 1 left, and 2 are needed");
 }
 
 #[test]

@@ -204,7 +204,7 @@ fn record_makes_a_session_exact() {
 fn the_version_is_told() {
     let (status, text, _) = run(&["--version"], "");
     let version = env!("CARGO_PKG_VERSION");
-    assert_eq!((status, text), (0, format!("nb {version}, line protocol northbridge 4\n")));
+    assert_eq!((status, text), (0, format!("nb {version}, line protocol northbridge 5\n")));
 }
 
 #[test]

@@ -46,7 +46,7 @@ fn bad_words_are_status_2() {
     holds(&["--kind", "nothing"], "expected one of plain");
     holds(&["--requests", "many"], "a number behind --requests");
     holds(&["more"], "expected options only");
-    holds(&["--against", "echo hello"], "expected northbridge 4");
+    holds(&["--against", "echo hello"], "expected northbridge 5");
     holds(&["--against", "./no-such-simulator"], "no-such-simulator");
 }
 

@@ -80,6 +80,30 @@ fn kept_tags() {
     assert!(!drawn("memory 64 entries 16\n").contains("kept"));
 }
 
+/// An entry that is paged out has a page and no place; a child of it is dead.
+#[test]
+fn paged_entries() {
+    let drawing = drawn(
+        "memory 64 entries 8
+         state key 0 0 last 7 nonce 100 total 2
+         entry 1 paged page-file 0x100000000 length 32 user 5 permissions RX lockable tag 1 nonce 1
+         entry 2 indirect base 0 length 8 parent @1:1 count 1 permissions R tag 2 nonce 2
+         entry 3 paged page-file 7 length 0 permissions RX tag 3 nonce 3
+         entry 4 paged length 9 zeros 1 permissions RX tag 4 nonce 4
+         entry 5 paged length 9 locked permissions RX tag 5 nonce 5",
+    );
+    for wanted in [
+        "8 entries: 1 paged out, 1 dead, 3 ill-formed, 3 free",
+        "\npaged out\n    #1: 32 bytes at page 4294967296, R-X, Lockable, user 5, tag 0x0001, nonce 1\n",
+        "its parent #1 is paged out",
+        "    #3: 0 bytes at page 7, R-X, tag 0x0003, nonce 3\n        its length is 0\n",
+        "a one stands among its 39 zeros",
+        "it is paged out, and Locked is set",
+    ] {
+        assert!(drawing.contains(wanted), "{wanted} in\n{drawing}");
+    }
+}
+
 #[test]
 fn gaps_overlaps_dead_and_ill_formed_entries() {
     let drawing = drawn(

@@ -141,7 +141,8 @@ fn lines(rows: &[&Value]) -> Vec<String> {
         let [kind, lead, title, words] =
             ["kind", "lead", "title", "words"].map(|name| row.at(name).text().expect(name));
         let [wrong, lock] = ["wrong", "lock"].map(|name| row.at(name).text().unwrap_or(""));
-        let apart = ["dead", "under an ill-formed entry", "ill-formed"].contains(&kind);
+        let apart =
+            ["paged out", "dead", "under an ill-formed entry", "ill-formed"].contains(&kind);
         let address = row.at("reach").list()[0].number();
         let rule = format!("0x{address:08x} {lead} {title}");
         lines.extend(match kind {

@@ -11,7 +11,8 @@ struct Judged(Proved);
 impl Judged {
     fn holds(request: &Words, table: &[u8], memory: usize, reply: &Reply) {
         let found = stop(request, table, memory, reply.refusal);
-        let of_entry = (Check::Entry as u64..=Check::Standing as u64).contains(&reply.refusal);
+        let of_entry = (Check::Entry as u64..=Check::Standing as u64).contains(&reply.refusal)
+            || reply.refusal == Check::Paged as u64;
         assert_eq!(found.is_some(), of_entry, "{request:?}: {reply:?} {found:?}");
         let Some(found) = found else { return };
         assert!(named(request).contains(&found.named), "{request:?}: {reply:?} {found:?}");

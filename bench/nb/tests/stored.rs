@@ -121,6 +121,7 @@ fn searched_keys_are_found_again() {
         "rest-with-tag-zero",
         "kept-rest",
         "kept-execute-only",
+        "page-kept-freed",
     ];
     for stored in stored::all().iter().filter(|stored| searched.contains(&stored.name)) {
         let script = script(&stored.text);

@@ -16,15 +16,16 @@ impl Bits {
 }
 
 pub const KIND: Bits = Bits(0, 3);
-/// At the same places in every type.
+/// At the same place in both types that have it.
 pub const BASE: Bits = Bits(3, 32);
+/// At the same places in every type.
 pub const PERMISSIONS: Bits = Bits(202, 3);
 pub const LOCKED: Bits = Bits(205, 1);
 pub const LOCKABLE: Bits = Bits(206, 1);
 pub const COPY_ON_WRITE: Bits = Bits(207, 1);
 pub const TAG: Bits = Bits(208, 16);
 pub const NONCE: Bits = Bits(224, 32);
-/// Of a direct entry.
+/// Of a direct entry; a paged one has its user there too.
 pub const HOLDER: Bits = Bits(83, 55);
 pub const USER: Bits = Bits(138, 64);
 const DIRECT_LENGTH: Bits = Bits(35, 32);
@@ -35,13 +36,21 @@ const INDIRECT_LENGTH: Bits = Bits(99, 32);
 const INDIRECT_COUNT: Bits = Bits(131, 16);
 const ZEROS: Bits = Bits(147, 55);
 
+/// Of a paged entry. Its user, permissions, flags, tag and nonce are where a direct one has them.
+pub const PAGE_FILE: Bits = Bits(3, 64);
+const PAGED_LENGTH: Bits = Bits(67, 32);
+pub const PAGED_ZEROS: Bits = Bits(99, 39);
+
 pub const FREE: u64 = 0;
 pub const DIRECT: u64 = 1;
 pub const INDIRECT: u64 = 2;
+pub const PAGED: u64 = 3;
 
-/// The fields of an entry. `Zeros` are the 55 bits of an indirect entry that should be zero.
+/// The fields of an entry. `Zeros` are the 55 bits of an indirect entry, or the 39 of a paged one,
+/// that should be zero.
 #[derive(Clone, Copy, Debug, PartialEq, Eq, PartialOrd, Ord)]
 pub enum Field {
+    PageFile,
     Base,
     Length,
     Parent,
@@ -94,6 +103,22 @@ pub const TYPES: &[Type] = &[
             (Field::Parent, PARENT),
             (Field::Count, INDIRECT_COUNT),
             (Field::Zeros, ZEROS),
+            (Field::Permissions, PERMISSIONS),
+            (Field::Locked, LOCKED),
+            (Field::Lockable, LOCKABLE),
+            (Field::Cow, COPY_ON_WRITE),
+            (Field::Tag, TAG),
+            (Field::Nonce, NONCE),
+        ],
+    },
+    Type {
+        kind: PAGED,
+        name: "paged",
+        fields: &[
+            (Field::PageFile, PAGE_FILE),
+            (Field::Length, PAGED_LENGTH),
+            (Field::Zeros, PAGED_ZEROS),
+            (Field::User, USER),
             (Field::Permissions, PERMISSIONS),
             (Field::Locked, LOCKED),
             (Field::Lockable, LOCKABLE),
@@ -168,6 +193,12 @@ impl Entry {
     pub fn indirect(base: u64, length: u64, parent: u64) -> Entry {
         let entry = Entry::of_kind(INDIRECT).with(BASE, base).with(PARENT, parent);
         entry.with_length(length).with_count(1).with(PERMISSIONS, 7)
+    }
+
+    /// A paged entry with R W X, Lockable.
+    pub fn paged(page_file: u64, length: u64) -> Entry {
+        let entry = Entry::of_kind(PAGED).with(PAGE_FILE, page_file);
+        entry.with_length(length).with(PERMISSIONS, 7).with(LOCKABLE, 1)
     }
 
     /// Two words from one on, the first above the second; zeros behind the end.

@@ -198,7 +198,7 @@ fn fits(part: &'static str, length: usize, longest: usize) -> Result<(), NoAnswe
 }
 
 /// The tokens that an answer gives. A token may be 0, so that its word does not tell: the second one,
-/// a create's rest, is given if the named entry is still in use.
+/// a create's rest or what a page-out leaves behind, is given if the named entry is still in use.
 fn given(request: &Words, reply: &Reply, after: &World) -> [Option<u64>; 2] {
     let operation = Operation::of(request.operation).filter(|_| reply.refusal == 0);
     let tokens = operation.map_or(0, |operation| operation.tokens().len());

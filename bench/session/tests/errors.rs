@@ -44,8 +44,8 @@ fn the_start() {
     holds("state nonse 1", 9, "'key', 'last', 'nonce' or 'total'");
     holds("state last 1 last 2", 16, "each once");
     holds("entry 4 free", 9, "a number from 0 to 3");
-    holds("entry 3", 10, "'free', 'direct', 'indirect', 'bytes'");
-    holds("entry 3 count 5", 11, "'free', 'direct', 'indirect' or 'bytes'");
+    holds("entry 3", 10, "'free', 'direct', 'indirect', 'paged', 'bytes'");
+    holds("entry 3 count 5", 11, "'free', 'direct', 'indirect', 'paged' or 'bytes'");
     holds("entry 3 free count 1", 16, "a field of the entry's type");
     holds("entry 3 free tag 65536", 20, "a number from 0 to 65535");
     holds("entry 3 direct parent root", 18, "a field of the entry's type");
@@ -55,6 +55,10 @@ fn the_start() {
     holds("entry 3 direct permissions 8", 30, "0 to 7");
     holds("entry 3 direct locked 2", 25, "a number from 0 to 1");
     holds("entry 3 indirect parent child", 27, "the parent's token");
+    holds("entry 3 paged base 1", 17, "a field of the entry's type");
+    holds("entry 3 paged count 1", 17, "a field of the entry's type");
+    holds("entry 3 paged zeros 0x8000000000", 23, "a number from 0 to 549755813887");
+    holds("entry 3 direct page-file 1", 18, "a field of the entry's type");
     holds("entry 3 bytes 00", 17, "32 bytes");
     holds("entry 3 bytes xyz", 17, "pairs of hex digits");
     holds("at 64 00", 9, "bytes that end inside memory, which has 64");
@@ -122,10 +126,11 @@ fn names_of_tokens_that_are_not_given() {
     for request in ["reset nonce 1", "read root 1", "clone root", "lock root task 1", "drop root"] {
         holds_in(&format!("{request} -> 0 as two"), request.len() + 7, none, "'as'");
     }
-    holds_in("operation 15 -> 0 as two", 19, none, "'as'");
+    holds_in("operation 17 -> 0 as two", 19, none, "'as'");
     let one = "one name, as this request gives one token";
     holds_in("revoke root -> 0 as two three", 25, one, "'three'");
     holds_in("derive root length 1 permissions R -> 0 as - two", 46, one, "'two'");
+    holds_in("page-in root root 00 -> 0 as two three", 34, one, "'three'");
 }
 
 /// A number that does not fit is told as such, wherever it stands.

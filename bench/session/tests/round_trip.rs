@@ -88,6 +88,39 @@ fn free_entries() {
     assert_eq!(lines, ["entry 1 free tag 0x4a52", "entry 2 bytes 00*26 4a5200000001"]);
 }
 
+/// A paged entry is written by its fields, whatever bits they hold.
+#[test]
+fn paged_entries() {
+    let mut world = World::zeros(4 * 32, 16);
+    Entry::paged(0x1_2345_6789, 16).with(entry::USER, 5).store(&mut world.table, 1);
+    let odd = Entry::paged(0, 0).with(entry::PAGED_ZEROS, 1).with(entry::LOCKED, 1);
+    odd.with(entry::COPY_ON_WRITE, 1).store(&mut world.table, 2);
+    let session = Session { world, steps: Vec::new() };
+    let text = print(&session);
+    assert!(read_again(&text) == session, "{text}");
+    let lines: Vec<&str> = text.lines().skip(1).collect();
+    let first = "entry 1 paged page-file 0x123456789 length 16 user 5 permissions RWX lockable \
+                 tag 0x0000 nonce 0";
+    let second = "entry 2 paged page-file 0 length 0 zeros 1 permissions RWX locked lockable cow \
+                  tag 0x0000 nonce 0";
+    assert_eq!(lines, [first, second]);
+}
+
+/// What paging is asked with, and the names of what it gives.
+#[test]
+fn paging() {
+    let text = "memory 4 entries 4\n\
+                reset key 0 0 nonce 1                       -> 0\n\
+                write root 01020304                         -> 0\n\
+                page-out root 4 page-file 9 task 5          -> 0 as paged zeroed buffer 01020304\n\
+                page-out zeroed page-file 8 buffer 00000000 -> 0 as other third buffer 00000000\n\
+                page-in paged third 01020304 encoding 1     -> 0 as back\n\
+                page-in other zeroed 00*0                   -> 2\n";
+    let script = parse(text).expect("a session");
+    assert_eq!(session::text::print_script(&script), text);
+    assert!(session::play::goes_as_expected(&script, &mut session::server::Proved));
+}
+
 #[test]
 fn the_largest_memory() {
     let mut world = World::zeros(1024 * 32, (1 << 24) + 1);

@@ -4,7 +4,7 @@
 //! the standard input, and each is answered by one line on the standard output:
 //!
 //! ```text
-//! northbridge 4                                   northbridge 4
+//! northbridge 5                                   northbridge 5
 //! world TABLE MEMORY KEY0 KEY1 LAST NEXT TOTAL    ok
 //! table AT BYTES                                  ok
 //! memory AT BYTES                                 ok
@@ -56,15 +56,15 @@ fn main() -> io::Result<()> {
 fn answer(world: &mut World, line: &str) -> Result<String, String> {
     let words: Vec<&str> = line.split_whitespace().collect();
     match words[..] {
-        ["northbridge", "4"] => Ok("northbridge 4".to_string()),
-        ["northbridge", ..] => Err("expected version 4".to_string()),
+        ["northbridge", "5"] => Ok("northbridge 5".to_string()),
+        ["northbridge", ..] => Err("expected version 5".to_string()),
         ["world", ref rest @ ..] => begin(world, rest),
         ["table", at, text] => put(&mut world.table, at, text),
         ["memory", at, text] => put(&mut world.memory, at, text),
         ["serve", ref rest @ .., buffer, leases] => ask(world, rest, buffer, leases),
         ["show-table", at, length] => show(&world.table, at, length),
         ["show-memory", at, length] => show(&world.memory, at, length),
-        _ => Err("expected northbridge 4, world, table, memory, serve or show".to_string()),
+        _ => Err("expected northbridge 5, world, table, memory, serve or show".to_string()),
     }
 }
 

@@ -97,7 +97,7 @@ fn silence_is_a_difference() {
 fn a_command_that_says_nothing_at_all() {
     let options = Options { against: Some("sleep 1000".to_string()), ..Options::default() };
     let error = run(&Options { wait: Duration::from_millis(300), ..options }).unwrap_err();
-    let told = "kept silent for 0.3 s when asked 'northbridge 4'";
+    let told = "kept silent for 0.3 s when asked 'northbridge 5'";
     assert!(error.contains(told) && error.contains("--wait"), "{error}");
 }
 
@@ -110,5 +110,5 @@ fn a_command_that_is_not_there() {
 #[test]
 fn a_command_that_does_not_speak_the_protocol() {
     let error = against("echo hello", 10).unwrap_err();
-    assert!(error.contains("'hello' to 'northbridge 4': expected northbridge 4"), "{error}");
+    assert!(error.contains("'hello' to 'northbridge 5': expected northbridge 5"), "{error}");
 }

@@ -47,3 +47,18 @@ pub fn copy(to: &mut [u8], from: &[u8])
     copy_bytes(&mut between[..count], from);
     copy_bytes(to, &between[..count]);
 }
+
+// The same for any length, 4,096 bytes at a time.
+pub fn copy_long(to: &mut [u8], from: &[u8])
+    requires { ⌜ length (now to) ≡ length (now from) ⌝ }
+    ensures { λ _. ⌜ now (to .exit) ≡ now (from .entry) ⌝ }
+{
+    let mut done = 0;
+    while 4096 <= from.len() - done {
+        let next = done + 4096;
+        copy(&mut to[done..next], &from[done..next]);
+        done = next;
+    }
+    let end = from.len();
+    copy(&mut to[done..end], &from[done..end]);
+}

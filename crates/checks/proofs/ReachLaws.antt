@@ -7,21 +7,22 @@ use Prim.Native.Nat.{ℕ, _+_, _*_, _/_, _≤_, _<_}
 use native.Mathlib.Omega.{arith}
 use lib.Dec.{eqb, ltb}
 use lib.ListN.{length}
-use borrow.Author.Tests.{eq-eqb, eqb-false, le-ltb, lt-ltb, ltb-true, ne-eqb, not-true}
+use borrow.Author.Tests.{eq-eqb, eqb-true, le-ltb, lt-ltb, ltb-true, ne-eqb}
 use Rattle.tokens.specs.Token.{named}
+use Rattle.layout.specs.Form.{illFormed}
 use Rattle.layout.specs.declared.entry.Entry.{Entry}
 use Rattle.tokens.specs.declared.token.Named.{Named}
-use Rattle.machine.specs.Line.{badOf, dead, ill, isIll, isLocked, Line, lineOf, owner}
-use Rattle.machine.specs.Operations.{numberOf}
+use Rattle.machine.specs.Line.{badOf, dead, ill, isIll, isLocked, isPaged, itself, Line, lineOf, owner, ownerOf, pagedOut, walk}
+use Rattle.machine.specs.Operations.{namedEntry, numberOf}
 use Rattle.machine.specs.Parts.{at, size}
 use Rattle.machine.specs.Steps.{pass, stop, Verdict, verdict}
-use Rattle.machine.specs.Stops.{atEntry, atForm, atLine, atLock, entryNamed, formed, isNamed, lineAlive, lineFormed, live, lockOpen, Refusal, refusalNumber}
-use Rattle.machine.proofs.Basics.{range}
+use Rattle.machine.specs.Stops.{atEntry, atForm, atLine, atLock, atPaged, Check, entryNamed, formed, isNamed, lineAlive, lineFormed, live, lockOpen, notPaged, pageReachable, reachable, Refusal, refusalNumber}
+use Rattle.machine.proofs.Basics.{present, range}
 use Rattle.machine.proofs.Decided.{passed}
-use Rattle.machine.proofs.Fuel.{line-formed}
+use Rattle.machine.proofs.Fuel.{line-formed, walk-owner}
 use Rattle.table.proofs.LineLaws.{own-owner}
 use Rattle.checks.specs.Holds.{namedHolds, ReadAs}
-use Rattle.checks.specs.Reached.{formedVerdict, liveVerdict, Near, Reaches, reachVerdict}
+use Rattle.checks.specs.Reached.{formedVerdict, liveVerdict, Near, pageVerdict, Reaches, reachVerdict}
 use Rattle.checks.specs.declared.reach.Reached.{Reached}
 use Rattle.checks.specs.declared.reach.Reached.the-variants as reached
 use Rattle.checks.proofs.VerdictLaws.{all-pass, all-stop, first-passes, first-stops, parts-pass}
@@ -63,15 +64,32 @@ module _ (m : ℕ) (t : List ℕ) (k : ℕ) where
 
   formed-named : namedHolds t k ≡ false → formedVerdict m t k ≡ stop atEntry
   unfolding formedVerdict namedHolds
-  formed-named h = first-stops (entryNamed t k) (lineFormed m t k ∷ []) (all-stop atEntry (isNamed t k) h)
+  formed-named h = first-stops (entryNamed t k) (notPaged t k ∷ lineFormed m t k ∷ []) (all-stop atEntry (isNamed t k) h)
 
   pub live-named : namedHolds t k ≡ false → liveVerdict m t k ≡ stop atEntry
   live-named h = formed-first atEntry (formed-named h)
 
-  module _ (there : namedHolds t k ≡ true) where
+  formed-paged : namedHolds t k ≡ true → isPaged (namedEntry t k) ≡ true → formedVerdict m t k ≡ stop atPaged
+  unfolding formedVerdict namedHolds
+  formed-paged there out = first-passes (entryNamed t k) (notPaged t k ∷ lineFormed m t k ∷ []) (all-pass atEntry (isNamed t k) there) ∙ rw out
+
+  pub live-paged : namedHolds t k ≡ true → isPaged (namedEntry t k) ≡ true → liveVerdict m t k ≡ stop atPaged
+  live-paged there out = formed-first atPaged (formed-paged there out)
+
+  module _ (there : namedHolds t k ≡ true) (here : isPaged (namedEntry t k) ≡ false) where
     form : formedVerdict m t k ≡ verdict (lineFormed m t k ∷ [])
     unfolding formedVerdict namedHolds
-    form = first-passes (entryNamed t k) (lineFormed m t k ∷ []) (all-pass atEntry (isNamed t k) there)
+    form = first-passes (entryNamed t k) (notPaged t k ∷ lineFormed m t k ∷ []) (all-pass atEntry (isNamed t k) there) ∙ rw here
+
+    -- a line that does not begin at a paged entry does not end at one
+    not-out : (o : ℕ) → line ≡ pagedOut o → ⊥
+    unfolding namedHolds
+    not-out o e =
+        let full = passed (entryNamed t k) (all-pass atEntry (isNamed t k) there) .1 .0 in
+        let ends : line ≡ owner (ownerOf line) = walk-owner _ m t (numberOf k) (present (namedEntry t k) full (ap not here)) (rw e (refl, refl)) in
+        let out : pagedOut o ≡ owner (ownerOf line) = sym e ∙ ends in
+        let z : _≡_ {A = ℕ} 0 1 = cc in
+        absurd (omega arith)
 
     alive : formedVerdict m t k ≡ pass → liveVerdict m t k ≡ verdict (lineAlive m t k ∷ [])
     unfolding formedVerdict liveVerdict
@@ -90,26 +108,30 @@ module _ (m : ℕ) (t : List ℕ) (k : ℕ) where
 
   pub formed-dead : (r : Refusal) → refusalNumber r ≡ 4 → liveVerdict m t k ≡ stop r → (formedVerdict m t k ≡ pass) × (false ≡ isLocked t line)
   unfolding numberIn
-  formed-dead r n h = go (namedHolds t k) refl line refl
+  formed-dead r n h = go (namedHolds t k) refl (isPaged (namedEntry t k)) refl line refl
     where
       other : (v : Verdict) → liveVerdict m t k ≡ v → numberIn v ≡ 4
       other v e = ap numberIn (sym e ∙ h) ∙ n
 
-      go : (b : Bool) → namedHolds t k ≡ b → (l : Line) → line ≡ l → (formedVerdict m t k ≡ pass) × (false ≡ isLocked t line)
-      go false q l e = absurd (omega (arith, other _ (live-named q)))
-      go true q (owner o) e = absurd (omega (arith, other _ (live-owner q o e)))
-      go true q (ill i) e = absurd (omega (arith, other _ (live-ill q i e)))
-      go true q (dead d) e = (form q ∙ rw e, rw e)
+      go : (b : Bool) → namedHolds t k ≡ b → (p : Bool) → isPaged (namedEntry t k) ≡ p → (l : Line) → line ≡ l → (formedVerdict m t k ≡ pass) × (false ≡ isLocked t line)
+      go false q p i l e = absurd (omega (arith, other _ (live-named q)))
+      go true q true i l e = absurd (omega (arith, other _ (live-paged q i)))
+      go true q false i (owner o) e = absurd (omega (arith, other _ (live-owner q i o e)))
+      go true q false i (pagedOut o) e = absurd (not-out q i o e)
+      go true q false i (ill k) e = absurd (omega (arith, other _ (live-ill q i k e)))
+      go true q false i (dead d) e = (form q i ∙ rw e, rw e)
 
   pub formed-stop : (r : Refusal) → (refusalNumber r ≡ 4 → ⊥) → liveVerdict m t k ≡ stop r → formedVerdict m t k ≡ stop r
   unfolding numberIn
-  formed-stop r n h = go (namedHolds t k) refl line refl
+  formed-stop r n h = go (namedHolds t k) refl (isPaged (namedEntry t k)) refl line refl
     where
-      go : (b : Bool) → namedHolds t k ≡ b → (l : Line) → line ≡ l → formedVerdict m t k ≡ stop r
-      go false q l e = formed-named q ∙ sym (live-named q) ∙ h
-      go true q (owner o) e = let d : pass ≡ stop r = sym (live-owner q o e) ∙ h in let z : _≡_ {A = ℕ} 0 1 = cc in absurd (omega arith)
-      go true q (ill i) e = (form q ∙ rw e) ∙ sym (live-ill q i e) ∙ h
-      go true q (dead d) e = absurd (n (ap numberIn (sym h ∙ live-dead q d e)))
+      go : (b : Bool) → namedHolds t k ≡ b → (p : Bool) → isPaged (namedEntry t k) ≡ p → (l : Line) → line ≡ l → formedVerdict m t k ≡ stop r
+      go false q p i l e = formed-named q ∙ sym (live-named q) ∙ h
+      go true q true i l e = formed-paged q i ∙ sym (live-paged q i) ∙ h
+      go true q false i (owner o) e = let d : pass ≡ stop r = sym (live-owner q i o e) ∙ h in let z : _≡_ {A = ℕ} 0 1 = cc in absurd (omega arith)
+      go true q false i (pagedOut o) e = absurd (not-out q i o e)
+      go true q false i (ill k) e = (form q i ∙ rw e) ∙ sym (live-ill q i k e) ∙ h
+      go true q false i (dead d) e = absurd (n (ap numberIn (sym h ∙ live-dead q i d e)))
 
   pub live-is-formed : liveVerdict m t k ≡ pass → formedVerdict m t k ≡ pass
   unfolding formedVerdict liveVerdict
@@ -135,6 +157,35 @@ module _ (m : ℕ) (t : List ℕ) (k : ℕ) where
         → (e .locked && not (eqb (e .holder) u)) ≡ false → reachVerdict m t k u ≡ pass
     reach-open o e h l q z = lock o e h l q ∙ rw z
 
+  -- ---- a token that may name a paged entry
+
+  abbrev onward : (u : ℕ) → List Check
+  onward u = lineFormed m t k ∷ lineAlive m t k ∷ lockOpen m t k u ∷ []
+
+  module _ (u : ℕ) where
+    pub page-named : namedHolds t k ≡ false → pageVerdict m t k u ≡ stop atEntry
+    unfolding pageVerdict namedHolds
+    page-named h = first-stops (entryNamed t k) (onward u) (all-stop atEntry (isNamed t k) h)
+
+    module _ (there : namedHolds t k ≡ true) where
+      page-on : pageVerdict m t k u ≡ verdict (onward u)
+      unfolding pageVerdict namedHolds
+      page-on = first-passes (entryNamed t k) (onward u) (all-pass atEntry (isNamed t k) there)
+
+      -- it names one, which is ill-formed or not
+      pub page-ill : isPaged (namedEntry t k) ≡ true → illFormed m (namedEntry t k) ≡ true → pageVerdict m t k u ≡ stop (atForm itself)
+      unfolding walk
+      page-ill out bad = page-on ∙ rw (bad, eq-eqb (numberOf k) (numberOf k) refl)
+
+      pub page-out : isPaged (namedEntry t k) ≡ true → illFormed m (namedEntry t k) ≡ false → pageVerdict m t k u ≡ pass
+      unfolding walk
+      page-out out formed = page-on ∙ rw (formed, eqb-true (namedEntry t k .kind) 3 out)
+
+      -- or another, which goes as with any request
+      pub page-other : isPaged (namedEntry t k) ≡ false → pageVerdict m t k u ≡ reachVerdict m t k u
+      unfolding reachVerdict namedHolds
+      page-other here = page-on ∙ sym (first-passes (entryNamed t k) (notPaged t k ∷ onward u) (all-pass atEntry (isNamed t k) there) ∙ rw here)
+
   -- ---- what a token that passes says
 
   pub formed-in : formedVerdict m t k ≡ pass → 32 * numberOf k + 32 ≤ length t
@@ -153,9 +204,8 @@ module _ (m : ℕ) (t : List ℕ) (k : ℕ) where
   reach-in u h = live-in (reach-is-live u h)
 
 -- an entry that is there and not ill-formed lies in memory
-pub reached-inside : (m : ℕ) (t : List ℕ) (n : ℕ) → not (eqb (at t n .kind) 0) ≡ true → not (isIll (lineOf m t n)) ≡ true → at t n .base + at t n .length ≤ m
-reached-inside m t n full formed =
-    range m (at t n) (eqb-false (at t n .kind) 0 (not-true (eqb (at t n .kind) 0) full)) (line-formed m t n formed) .1
+pub reached-inside : (m : ℕ) (t : List ℕ) (n : ℕ) → not (eqb (at t n .kind) 0) ≡ true → not (isPaged (at t n)) ≡ true → not (isIll (lineOf m t n)) ≡ true → at t n .base + at t n .length ≤ m
+reached-inside m t n full here formed = range m (at t n) (present (at t n) full here) (line-formed m t n formed) .1
 
 -- what a token came to is known of a verdict that is the same
 pub reaches-as : (t : List ℕ) (r : Reached) (l : Line) (v w : Verdict) → w ≡ v → Reaches t r v l → Reaches t r w l
@@ -173,5 +223,10 @@ module _ (m : ℕ) (t : List ℕ) (k : ℕ) (n : Named) (is : n ≡ named k) (h 
   near-line : lineOf m t (numberOf k) ≡ owner (n .number)
   near-line = ap (λ (x : Named). lineOf m t (x .number)) (sym is) ∙ sym (own-owner m t (n .number) (at t (n .number)) false refl (sym (h .formed)) refl (h .direct))
 
+  near-here : isPaged (namedEntry t k) ≡ false
+  near-here =
+      let one = h .direct in
+      subst (λ (x : Named). isPaged (at t (x .number)) ≡ false) is (ne-eqb (at t (n .number) .kind) 3 (λ q. absurd (omega (arith, one, q))))
+
   pub near-reaches : Reaches t (reached.Owner (n .number)) (liveVerdict m t k) (lineOf m t (numberOf k))
-  near-reaches = let i = h .inside in (live-owner m t k near-named (n .number) near-line, (near-line, omega arith))
+  near-reaches = let i = h .inside in (live-owner m t k near-named near-here (n .number) near-line, (near-line, omega arith))

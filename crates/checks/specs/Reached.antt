@@ -10,10 +10,12 @@ use Rattle.layout.specs.Form.{illFormed}
 use Rattle.machine.specs.Line.{Line, owner}
 use Rattle.machine.specs.Parts.{at}
 use Rattle.machine.specs.Steps.{pass, Verdict, verdict}
-use Rattle.machine.specs.Stops.{formed, live, reachable}
+use Rattle.machine.specs.Stops.{formed, live, pageReachable, reachable}
 use Rattle.checks.specs.Refusals.{stopAs}
 use Rattle.checks.specs.declared.reach.Formed.{Formed}
 use Rattle.checks.specs.declared.reach.Formed.the-variants as held
+use Rattle.checks.specs.declared.reach.Passing.{Passing}
+use Rattle.checks.specs.declared.reach.Passing.the-variants as passing
 use Rattle.checks.specs.declared.reach.Reached.{Reached}
 use Rattle.checks.specs.declared.reach.Reached.the-variants as reached
 
@@ -26,6 +28,15 @@ liveVerdict m t k = verdict (live m t k)
 
 unfoldable pub reachVerdict : ℕ → List ℕ → (token task : ℕ) → Verdict
 reachVerdict m t k u = verdict (reachable m t k u)
+
+-- and of places 2 to 5 of a token that may name a paged entry
+unfoldable pub pageVerdict : ℕ → List ℕ → (token task : ℕ) → Verdict
+pageVerdict m t k u = verdict (pageReachable m t k u)
+
+-- the checks came to the verdict v
+abbrev pub Passes : Passing → Verdict → Type 0
+Passes (passing.Stop why) v = v ≡ stopAs why
+Passes passing.Pass v = v ≡ pass
 
 -- the checks of a token came to the verdict v, and its line in the table t to l
 abbrev pub Reaches : List ℕ → Reached → Verdict → Line → Type 0

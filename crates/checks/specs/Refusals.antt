@@ -7,7 +7,7 @@ use Rattle.machine.specs.Stops as stops
 use Rattle.checks.specs.declared.refusal.Bad.{Bad}
 use Rattle.checks.specs.declared.refusal.Bad.the-variants.{Ancestor, Named}
 use Rattle.checks.specs.declared.refusal.Refusal.{Refusal}
-use Rattle.checks.specs.declared.refusal.Refusal.the-variants.{Bounds, Checksum, Dead, Entry, IllFormed, Kind, Lease, Lock, Nonces, Numbers, Record, Request, Right, Room, Standing, Window}
+use Rattle.checks.specs.declared.refusal.Refusal.the-variants.{Bounds, Checksum, Dead, Entry, IllFormed, Kind, Lease, Lock, Nonces, Numbers, Paged, Record, Request, Right, Room, Standing, Window}
 
 abbrev pub badAs : Bad → line.Bad
 badAs Named = line.itself
@@ -30,6 +30,7 @@ refusalAs Checksum = stops.atChecksum
 refusalAs Room = stops.atRoom
 refusalAs Window = stops.atWindow
 refusalAs Lease = stops.atLease
+refusalAs Paged = stops.atPaged
 
 -- the verdict of a refusal
 abbrev pub stopAs : Refusal → Verdict

@@ -1,10 +1,12 @@
-// The entry that a token names, its line and its lock: places 2 to 5.
+// The entry that a token names, its line and its lock: places 2 to 5, and 17 behind place 2.
 use crate::refusal::Bad;
 use crate::refusal::Refusal;
 use crate::refusal::told;
 use forms::form::ill_formed;
 use table::entries::entry_at;
+use table::entries::has_tag;
 use table::line::Line;
+use table::line::is_paged;
 use table::line::walk;
 use tokens::token::Named;
 ghost use mathlib.Core.Path.{_≡_};
@@ -16,7 +18,7 @@ ghost use Rattle.machine.specs.Line as line;
 ghost use Rattle.machine.specs.Operations.{numberOf};
 ghost use Rattle.tokens.specs.Token as token;
 ghost use Rattle.checks.specs.Holds.{Names, ReadAs};
-ghost use Rattle.checks.specs.Reached.{formedVerdict, Forms, liveVerdict, Near, Reaches, reachVerdict};
+ghost use Rattle.checks.specs.Reached.{formedVerdict, Forms, liveVerdict, Near, pageVerdict, Passes, Reaches, reachVerdict};
 ghost use Rattle.checks.specs.Refusals.{badAs};
 
 // What the checks of a token come to: where it stops, or the owner of its line.
@@ -31,6 +33,12 @@ pub enum Formed {
     Locked(bool),
 }
 
+// What places 2 to 5 of a token come to where its owner does not matter.
+pub enum Passing {
+    Stop(Refusal),
+    Pass,
+}
+
 // Place 2: the number is in the table, its entry is not free and has the tag.
 fn entry_named(table: &[u8], number: u64, tag: u64) -> bool
     ensures { λ r. ⌜ Names r (now (table .entry)) number tag ⌝ }
@@ -38,7 +46,7 @@ fn entry_named(table: &[u8], number: u64, tag: u64) -> bool
 {
     if number < (table.len() / 32) as u64 {
         let e = entry_at(table, number as usize);
-        (e.kind != 0) & ((e.tag as u64) == tag)
+        (e.kind != 0) & has_tag(e, tag)
     } else {
         false
     }
@@ -51,7 +59,7 @@ fn bad(n: usize, k: usize) -> Bad
     if k == n { Bad::Named } else { Bad::Ancestor }
 }
 
-// Places 2 to 4 for every token that is read as the number and the tag.
+// Places 2 to 4 for every token that is read as the number and the tag, and 17 behind place 2.
 fn reach_live(table: &[u8], memory: u64, number: u64, tag: u64) -> Reached
     ensures { λ r. ⌜ ((k : ℕ) → ReadAs k number tag → Reaches (now (table .entry)) r (liveVerdict memory (now (table .entry)) k) (line.lineOf memory (now (table .entry)) (numberOf k))) ⌝ }
 {
@@ -59,6 +67,9 @@ fn reach_live(table: &[u8], memory: u64, number: u64, tag: u64) -> Reached
         return Reached::Stop(Refusal::Entry);
     }
     let n = number as usize;
+    if is_paged(table, n) {
+        return Reached::Stop(Refusal::Paged);
+    }
     let l = walk(table, memory, n);
     match l {
         Line::Owner(o) => Reached::Owner(o),
@@ -74,7 +85,7 @@ pub fn near(table: &[u8], memory: u64, n: Named) -> bool
     if n.number < (table.len() / 32) as u64 {
         let e = entry_at(table, n.number as usize);
         if e.kind == 1 {
-            if (e.tag as u64) == n.tag {
+            if has_tag(e, n.tag) {
                 !ill_formed(memory, e)
             } else {
                 false
@@ -136,6 +147,31 @@ pub fn opens(table: &[u8], memory: u64, k: u64, task: u64, r: Reached) -> Reache
                 Reached::Owner(o)
             }
         }
+    }
+}
+
+// Places 2 to 5 for the token k, which is read as n and may name an entry that is paged out: such
+// a one has no line and no lock.
+pub fn reach_paged(table: &[u8], memory: u64, k: u64, n: Named, task: u64) -> Passing
+    requires { ⌜ n ≡ token.named k ⌝ }
+    ensures { λ r. ⌜ Passes r (pageVerdict memory (now (table .entry)) k task) ⌝ }
+{
+    if !entry_named(table, n.number, n.tag) {
+        return Passing::Stop(Refusal::Entry);
+    }
+    let i = n.number as usize;
+    if is_paged(table, i) {
+        let e = entry_at(table, i);
+        if ill_formed(memory, e) {
+            return Passing::Stop(Refusal::IllFormed(Bad::Named));
+        }
+        return Passing::Pass;
+    }
+    let near = reach_near(table, memory, k, n);
+    let r = opens(table, memory, k, task, near);
+    match r {
+        Reached::Stop(why) => Passing::Stop(why),
+        Reached::Owner(_) => Passing::Pass,
     }
 }
 

@@ -21,11 +21,12 @@ pub enum Refusal {
     Dead(Bad),
     // 5: locked for another task.
     Lock,
-    // 6: create, merge, revoke of an indirect entry.
+    // 6: create, merge, revoke, paging out of an indirect entry; paging in of one that is not paged
+    // out, or with a donor that is not direct.
     Kind,
     // 7: a permission, X or Lockable is lacking.
     Right,
-    // 8: outside the segment, derive's sum, or not neighbours in order.
+    // 8: outside the segment, derive's sum, not neighbours in order, or lengths that are not equal.
     Bounds,
     // 9: locked, or the count forbids it.
     Standing,
@@ -43,6 +44,8 @@ pub enum Refusal {
     Window,
     // 16: a lease's minutes are equal, or one lies beyond the week.
     Lease,
+    // 17: the entry is paged out, and the request does not page in.
+    Paged,
 }
 
 // 01's number of a refusal, and which entry was bad: 0 if it tells of none.
@@ -93,5 +96,6 @@ pub fn told(why: Refusal) -> RefusalWords
         Refusal::Room => plain(14),
         Refusal::Window => plain(15),
         Refusal::Lease => plain(16),
+        Refusal::Paged => plain(17),
     }
 }

@@ -12,7 +12,6 @@ use Rattle.layout.specs.Entry.{dated}
 use Rattle.layout.specs.declared.entry.Entry.{Entry}
 use Rattle.machine.specs.Issuing.{issue, lastHeld, otherNonce, passOver}
 use Rattle.machine.specs.Parts.{moved, put, spent, State}
-use Rattle.machine.specs.Writes.{oneLess}
 use Rattle.machine.proofs.Choices.{by-both, by-cond}
 use Rattle.machine.proofs.Fuel.{other-least, pass-over}
 use Rattle.machine.proofs.TableLaws.{at-other}
@@ -114,9 +113,9 @@ module _ (s : State) (t : List ℕ) (n k : ℕ) (e f : Entry) (apart : n ≡ k �
   kept-tag : (a : Entry) → lastHeld (put t n a) k ≡ lastHeld t k
   kept-tag a = ap (λ (x : Entry). x .tag) (at-other t n k a (λ z. apart (sym z)))
 
-  -- the nonce of the second, where the first took ν
-  behind : (ν : ℕ) → passOver (spent - (ν + 1)) s k (dated f) kept (ν + 1) ≡ otherNonce (moved s n (ν + 1) (oneLess (s .total))) (put t n (issue s n (dated e ν))) k (dated f)
-  behind ν = rw (other, ← kept-tag (issue s n (dated e ν))) (sym (pass-moved _ s _ _ _ k (dated f) _ _))
+  -- the nonce of the second, where the first took ν, and l and total are then the last number and the free total
+  behind : (l total ν : ℕ) → passOver (spent - (ν + 1)) s k (dated f) kept (ν + 1) ≡ otherNonce (moved s l (ν + 1) total) (put t n (issue s n (dated e ν))) k (dated f)
+  behind l total ν = rw (other, ← kept-tag (issue s n (dated e ν))) (sym (pass-moved _ s _ _ _ k (dated f) _ _))
 
   -- both are found
   pub found-both : (r : FoundTwo) → r .second .nonce < spent → Tries s n k (dated e) (dated f) last kept (r .first .nonce) (r .second .nonce)
@@ -127,14 +126,14 @@ module _ (s : State) (t : List ℕ) (n k : ℕ) (e f : Entry) (apart : n ≡ k �
       record {
         left = λ h. omega (arith, inv .behind);
         one = λ h. record { nonce = both .0 ∙ rw held; tag = λ z. a };
-        two = λ h. record { nonce = both .1 ∙ behind (r .first .nonce); tag = λ z. b };
+        two = λ h l total. record { nonce = both .1 ∙ behind l total (r .first .nonce); tag = λ z. b };
         none = λ h. absurd (omega arith);
       }
 
   -- there are no two
   pub found-none : (r : FoundTwo) → spent ≤ r .second .nonce → Tries s n k (dated e) (dated f) last kept (r .first .nonce) (r .second .nonce) → FindsTwo s t n e k f r
   found-none r end inv =
-      record { left = λ h. absurd (omega arith); one = λ h. absurd (omega arith); two = λ h. absurd (omega arith); none = λ h. go (inv .done) }
+      record { left = λ h. absurd (omega arith); one = λ h. absurd (omega arith); two = λ h. absurd (omega arith); none = λ h l total. go l total (inv .done) }
     where
       one : ℕ
       one = r .first .nonce
@@ -148,9 +147,9 @@ module _ (s : State) (t : List ℕ) (n k : ℕ) (e f : Entry) (apart : n ≡ k �
       at-one : ν ≡ passOver (spent - one) s n (dated e) last one
       at-one = rw (← held) (inv .first)
 
-      go : (two ≡ one + 1) ⊎ ((issue s n (dated e one) .tag ≡ last → ⊥) × (one < spent)) → spent ≤ otherNonce (moved s n (ν + 1) (oneLess (s .total))) (put t n (issue s n (dated e ν))) k (dated f)
-      go (inl z) = omega (arith, at-one, pass-over (spent - one) s n (dated e) last one .from, other-least (moved s n (ν + 1) (oneLess (s .total))) (put t n (issue s n (dated e ν))) k (dated f))
-      go (inr z) =
+      go : (l total : ℕ) → (two ≡ one + 1) ⊎ ((issue s n (dated e one) .tag ≡ last → ⊥) × (one < spent)) → spent ≤ otherNonce (moved s l (ν + 1) total) (put t n (issue s n (dated e ν))) k (dated f)
+      go l total (inl z) = omega (arith, at-one, pass-over (spent - one) s n (dated e) last one .from, other-least (moved s l (ν + 1) total) (put t n (issue s n (dated e ν))) k (dated f))
+      go l total (inr z) =
           let same : ν ≡ one = at-one ∙ sym (pass-found s n (dated e) last one one _ refl (z .1) refl (z .0)) in
-          let at-two : otherNonce (moved s n (ν + 1) (oneLess (s .total))) (put t n (issue s n (dated e ν))) k (dated f) ≡ passOver (spent - two) s k (dated f) kept two = sym (behind ν) ∙ rw same (inv .second) in
+          let at-two : otherNonce (moved s l (ν + 1) total) (put t n (issue s n (dated e ν))) k (dated f) ≡ passOver (spent - two) s k (dated f) kept two = sym (behind l total ν) ∙ rw same (inv .second) in
           omega (arith, at-two, pass-over (spent - two) s k (dated f) kept two .from)

@@ -8,7 +8,6 @@ use Rattle.layout.specs.Entry.{dated, Laid}
 use Rattle.layout.specs.declared.entry.Entry.{Entry}
 use Rattle.machine.specs.Issuing.{issue, otherNonce}
 use Rattle.machine.specs.Parts.{moved, put, spent, State}
-use Rattle.machine.specs.Writes.{oneLess}
 use Rattle.entering.specs.declared.nonces.Found.{Found}
 use Rattle.entering.specs.declared.nonces.FoundTwo.{FoundTwo}
 
@@ -26,11 +25,12 @@ pub record Finds (s : State) (t : List ℕ) (n : ℕ) (e : Entry) (r : Found) : 
   pub nonce : r .nonce ≡ otherNonce s t n (dated e)
   pub tag : r .nonce < spent → r .tag ≡ issue s n (dated e (r .nonce)) .tag
 
--- The same for two: e is given the new number n, and then f is issued under number k, with both nonces below the end, or the second has none.
+-- The same for two: e is issued under number n, and then f under number k, with both nonces below the end, or the second has none. What the last number and the
+-- free total are between the two does not matter, so that either may be the one that is given a new number.
 pub record FindsTwo (s : State) (t : List ℕ) (n : ℕ) (e : Entry) (k : ℕ) (f : Entry) (r : FoundTwo) : Type 0 where
   pub left : r .second .nonce < spent → r .first .nonce < spent
   pub one : r .second .nonce < spent → Finds s t n e (r .first)
-  pub two : r .second .nonce < spent → Finds (moved s n (r .first .nonce + 1) (oneLess (s .total))) (put t n (issue s n (dated e (r .first .nonce)))) k f (r .second)
+  pub two : r .second .nonce < spent → (last total : ℕ) → Finds (moved s last (r .first .nonce + 1) total) (put t n (issue s n (dated e (r .first .nonce)))) k f (r .second)
   pub none :
-      spent ≤ r .second .nonce → let ν = otherNonce s t n (dated e) in
-      spent ≤ otherNonce (moved s n (ν + 1) (oneLess (s .total))) (put t n (issue s n (dated e ν))) k (dated f)
+      spent ≤ r .second .nonce → (last total : ℕ) → let ν = otherNonce s t n (dated e) in
+      spent ≤ otherNonce (moved s last (ν + 1) total) (put t n (issue s n (dated e ν))) k (dated f)

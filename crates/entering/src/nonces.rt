@@ -117,7 +117,7 @@ fn found_two(one: u64, first: u16, two: u64, second: u16) -> FoundTwo
     }
 }
 
-// The nonces for the first under the new number n and then, behind that, for the second under number
+// The nonces for the first under number n and then, behind that, for the second under another, number
 // k. Both tags are computed at once, and those of the next two nonces nearly always do. The second's
 // nonce is 2^32 or more if there are no two.
 pub fn find_two(

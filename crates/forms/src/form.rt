@@ -26,6 +26,13 @@ fn ill_indirect(memory: u64, e: Entry) -> bool
         | (parent != 1)
 }
 
+// An entry that is paged out has no place in memory.
+fn ill_paged(memory: u64, e: Entry) -> bool
+    ensures { λ r. ⌜ r ≡ orSome false (faultsOf 3 memory e) ⌝ }
+{
+    (e.length == 0) | e.cow | e.locked | (e.zeros != 0)
+}
+
 // The entry is ill-formed. A free one never is.
 pub fn ill_formed(memory: u64, e: Entry) -> bool
     ensures { λ r. ⌜ r ≡ illFormed memory e ⌝ }
@@ -35,6 +42,7 @@ pub fn ill_formed(memory: u64, e: Entry) -> bool
         0 => false,
         1 => ill_direct(memory, e),
         2 => ill_indirect(memory, e),
+        3 => ill_paged(memory, e),
         _ => true,
     }
 }

@@ -175,7 +175,7 @@ module _ (m : ℕ) (s : State) (t : List ℕ) (k u : ℕ) (φ : Shift) (b : List
     all = passed-on m s t (load k u φ) b h
 
     pub load-room : namedEntry t k .base + namedEntry t k .length ≤ m
-    load-room = reached-inside m t (numberOf k) (let p = all in search) (let p = all in search)
+    load-room = reached-inside m t (numberOf k) (let p = all in search) (let p = all in search) (let p = all in search)
 
     pub load-fits : Fits (said b) (namedEntry t k .length)
     load-fits = let p = all in text-fits b (namedEntry t k .length) (search) (search) (leb-true (farthest (piecesOf b)) (namedEntry t k .length) (search))
@@ -233,7 +233,7 @@ module _ (m : ℕ) (s : State) (t : List ℕ) (k u : ℕ) (φ : Shift) (b : List
     all-dump = passed-on m s t (dump k u φ) b h
 
     pub dump-inside : namedEntry t k .base + namedEntry t k .length ≤ m
-    dump-inside = reached-inside m t (numberOf k) (let p = all-dump in search) (let p = all-dump in search)
+    dump-inside = reached-inside m t (numberOf k) (let p = all-dump in search) (let p = all-dump in search) (let p = all-dump in search)
 
     pub dump-room : (namedEntry t k .length ≤ 23820) × (writtenLength (namedEntry t k .length) ≤ length b)
     dump-room =

@@ -32,7 +32,7 @@ picked-alike : (o k x u l m p c : ℕ) (φ ψ : Shift) → Alike φ ψ (picked o
 unfolding picked
 picked-alike o k x u l m p c φ ψ =
     at-place φ ψ {js = requests k x u l m p c φ} {ks = requests k x u l m p c ψ}
-    (more same (more (shifts accesses) (more (shifts accesses) (more (shifts accesses) (more same (more same (more same (more same (more same (more same (more same (more same (more same (more (shifts loads) (more (shifts dumps) none)))))))))))))))
+    (more same (more (shifts accesses) (more (shifts accesses) (more (shifts accesses) (more same (more same (more same (more same (more same (more same (more same (more same (more same (more (shifts loads) (more (shifts dumps) (more same (more same none)))))))))))))))))
     o
 
 -- an access of a controller without shifts

@@ -90,7 +90,7 @@ beyond (suc n) o h =
     let other : o ≢ n = h .1 in
     omega arith
 
--- no request has a number above 14
-pub picked-none : (o k x u l m p c : ℕ) (φ : Shift) → 15 ≤ o → unknown ≡ picked o k x u l m p c φ
+-- no request has a number above 16
+pub picked-none : (o k x u l m p c : ℕ) (φ : Shift) → 17 ≤ o → unknown ≡ picked o k x u l m p c φ
 unfolding picked
 picked-none o k x u l m p c φ h = sym (List·getD-eq-default (requests k x u l m p c φ) unknown h)

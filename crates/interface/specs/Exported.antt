@@ -12,7 +12,7 @@ use Rattle.bits.specs.SipHash.{word}
 use Rattle.leases.specs.Lease.{fit}
 use Rattle.machine.specs.Operations.{Reply}
 use Rattle.machine.specs.Parts.{State}
-use Rattle.machine.specs.Requests.{access, Call, clone, create, derive, dump, executeOnly, fetching, load, lock, merge, noShift, reading, release, Request, reset, revoke, Shift, unlock, writing}
+use Rattle.machine.specs.Requests.{access, Call, clone, create, derive, dump, executeOnly, fetching, load, lock, merge, noShift, pageIn, pageOut, reading, release, Request, reset, revoke, Shift, unlock, writing}
 use Rattle.machine.specs.ShiftWindows.{Leaseless}
 use Rattle.machine.specs.Steps as steps
 use Rattle.machine.specs.Steps.{Answer, Machine, step, turnedAway}
@@ -33,7 +33,7 @@ pub data Asked : Type 0 where
   known : Request → Asked
   unknown : Asked
 
--- the requests in the order of their operations' numbers, 0 to 14; `release` is drop; the five that are accesses bring the shift φ
+-- the requests in the order of their operations' numbers, 0 to 16; `release` is drop; the five that are accesses bring the shift φ
 abbrev pub requests : (token second task length user permissions encoding : ℕ) → Shift → List Asked
 requests k x u l m p c φ =
     known (reset k x u)
@@ -51,6 +51,8 @@ requests k x u l m p c φ =
     ∷ known (revoke k c)
     ∷ known (load k u φ)
     ∷ known (dump k u φ)
+    ∷ known (pageOut k u x c)
+    ∷ known (pageIn k x u c)
     ∷ []
 
 -- the first word picks the request, made of the words after it

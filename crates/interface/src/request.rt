@@ -91,6 +91,18 @@ fn pick(
             task,
             minute,
         }),
+        15 => Asked::Known(Request::PageOut {
+            token,
+            task,
+            page: second,
+            encoding,
+        }),
+        16 => Asked::Known(Request::PageIn {
+            token,
+            donor: second,
+            task,
+            encoding,
+        }),
         _ => Asked::Unknown,
     }
 }

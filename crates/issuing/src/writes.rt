@@ -9,6 +9,7 @@ ghost use mathlib.Core.Path.{_≡_};
 ghost use mathlib.Core.List.{[], _∷_};
 ghost use Rattle.layout.specs.Entry.{dated, entryOf, wordsNumber};
 ghost use Rattle.machine.specs.Issuing.{newNumber};
+ghost use Rattle.machine.specs.Parts.{at};
 ghost use Rattle.machine.specs.Writes as write;
 ghost use Rattle.issuing.specs.Issued.{Issues, issuedAs, IssuesTwo, issuedTwoAs};
 ghost use Rattle.table.specs.Left.{leftBy};
@@ -97,5 +98,35 @@ pub fn give_and_reissue(
         state: s,
         first: given,
         second: reissued,
+    }
+}
+
+// The first, which is not free, is issued anew under its number k, then the second is given the new
+// number, which is the same as before.
+pub fn reissue_and_give(
+    mut s: StateWords,
+    table: &mut [u8],
+    k: usize,
+    first: Words,
+    free: usize,
+    second: Words,
+    new: FoundTwo,
+    encoding: u64,
+) -> IssuedTwo
+    requires { ⌜ IssuesTwo (stateAs s) (now table) k (entryOf (wordsNumber first)) free (entryOf (wordsNumber second)) new encoding ⌝ }
+    requires { ⌜ (free ≡ newNumber (stateAs s) (now table)) × (at (now table) k .kind ≡ 0 → ⊥) ⌝ }
+    ensures { λ r. ⌜ issuedTwoAs r (now (table .exit)) ≡ leftBy (write.written encoding (write.opened (stateAs s) (now (table .entry))) (write.reissue k (dated (entryOf (wordsNumber first))) ∷ write.give (dated (entryOf (wordsNumber second))) ∷ [])) ⌝ }
+{
+    let anew = new.first;
+    let given = new.second;
+    let renewed = enter(table, k, first, anew.nonce as u32, anew.tag, encoding);
+    let added = enter(table, free, second, given.nonce as u32, given.tag, encoding);
+    s.last = free as u64;
+    s.next = given.nonce + 1;
+    s.total = one_less(s.total);
+    IssuedTwo {
+        state: s,
+        first: renewed,
+        second: added,
     }
 }

@@ -1,18 +1,18 @@
 -- Entries: their four words, the same small fields in two groupings; and both round trips.
 -- Assumes nothing.
 use mathlib.Core.Path.{_≡_, refl, sym, _∙_, ap, subst}
-use mathlib.Core.Bool.{Bool, true, false}
+use mathlib.Core.Bool.{Bool, true, false, cond}
 use mathlib.Core.List.{List, [], _∷_}
 use Prim.Native.Nat.{ℕ, zero, suc, _+_, _*_, _/_, _%_, _^_, _<_}
-use native.Mathlib.Nat.{div-one, mod-lt, mod-eq-of-lt, mul-one, add-zero, zero-add, zero-mul, div-add-mod'}
+use native.Mathlib.Nat.{div-one, lt-of-lt-of-le, mod-lt, mod-eq-of-lt, mul-one, add-zero, zero-add, zero-mul, div-add-mod'}
 use native.Mathlib.Omega.{arith}
 use lib.Arith.{digits-lt}
 use lib.Pow.{mod-pow-add, pow-add, pow-pos, shr-lt, shr-mod}
-use lib.Dec.{eqb, lit<, ltb}
+use lib.Dec.{eqb, lit<, lit≤, ltb}
 use lib.ListN.{getD, drop}
 use borrow.Author.Tests.{ltb-true}
 use Rattle.bits.specs.Fields.{bits, pack, unpack, Fit}
-use Rattle.layout.specs.Entry.{direct, free, freed, freeFields, freeNumber, indirect, wordWidths, wordList, wordsNumber, bit, endWidths, endFields, endFrom, directWidths, directFields, directNumber, directFrom, directOf, indirectWidths, indirectFields, indirectNumber, indirectFrom, indirectOf, typeOf, packAs, unpackAs, entryNumber, entryOf, packable, recounted, relocked, Fits, Laid, laidDirect, laidIndirect, Storable, isFree, isDirect, isIndirect}
+use Rattle.layout.specs.Entry.{direct, free, freed, freeFields, freeNumber, indirect, wordWidths, wordList, wordsNumber, bit, endWidths, endFields, endFrom, directWidths, directFields, directNumber, directFrom, directOf, indirectWidths, indirectFields, indirectNumber, indirectFrom, indirectOf, paged, pagedWidths, pagedFields, pagedNumber, pagedFrom, pagedOf, typeOf, packAs, unpackAs, entryNumber, entryOf, packable, recounted, relocked, Fits, Laid, laidDirect, laidIndirect, laidPaged, Storable, isFree, isDirect, isIndirect, isPaged}
 use Rattle.layout.specs.declared.entry.Words.{Words}
 use Rattle.layout.specs.declared.entry.Entry.{Entry}
 use Rattle.bits.proofs.FieldLaws.{pack-lt, unpack-pack, pack-unpack, unpack-fit, regroup-pack, regroup-unpack, cut, groups}
@@ -57,6 +57,7 @@ directRead w m = record {
   holder = w .b % 2 ^ 45 * 1024 + w .c / 2 ^ 54;
   user = w .c % 2 ^ 54 * 1024 + w .d / 2 ^ 54;
   parent = m .parent;
+  page = m .page;
   zeros = m .zeros;
   permissions = m .permissions;
   locked = m .locked;
@@ -103,6 +104,7 @@ indirectRead w m = record {
   holder = m .holder;
   user = m .user;
   parent = w .a % 2 ^ 29 * 2 ^ 35 + w .b / 2 ^ 29;
+  page = m .page;
   zeros = w .c % 2 ^ 45 * 1024 + w .d / 2 ^ 54;
   permissions = m .permissions;
   locked = m .locked;
@@ -119,8 +121,55 @@ indirect-read w h hm =
     simp (mul-one, add-zero, div-one, shr-mod 35 29 (h .1 .0), shr-mod 3 61 (h .1 .1 .0), shr-mod 10 54 (h .1 .1 .1 .0)) in
     rw hm (same ∙ ap indirectFrom (sym (regroup-unpack indirectByWord indirectByField (wordList w) refl h)))
 
+-- an entry that is paged out, in the same way
+abbrev pagedByField : List (List ℕ)
+pagedByField = (3 ∷ []) ∷ (61 ∷ 3 ∷ []) ∷ (32 ∷ []) ∷ (29 ∷ 10 ∷ []) ∷ (54 ∷ 10 ∷ []) ∷ ends
+
+abbrev pagedByWord : List (List ℕ)
+pagedByWord = (3 ∷ 61 ∷ []) ∷ (3 ∷ 32 ∷ 29 ∷ []) ∷ (10 ∷ 54 ∷ []) ∷ (10 ∷ endWidths) ∷ []
+
+pub paged-words : (e : Entry) {a b c d : ℕ}
+    → a ≡ pack (3 ∷ 61 ∷ []) (3 ∷ e .page / 8 ∷ [])
+    → b ≡ pack (3 ∷ 32 ∷ 29 ∷ []) (e .page % 8 ∷ e .length ∷ e .zeros / 1024 ∷ [])
+    → c ≡ pack (10 ∷ 54 ∷ []) (e .zeros % 1024 ∷ e .user / 1024 ∷ [])
+    → d ≡ pack (10 ∷ endWidths) (e .user % 1024 ∷ endFields e)
+    → pack wordWidths (a ∷ b ∷ c ∷ d ∷ []) ≡ pagedNumber e
+unfolding pagedNumber
+paged-words e ha hb hc hd =
+    let p : List ℕ =
+    3 ∷ e .page / 8 ∷ e .page % 8 ∷ e .length ∷ e .zeros / 1024 ∷ e .zeros % 1024 ∷ e .user / 1024 ∷ e .user % 1024
+    ∷ endFields e in
+    let fields : groups pagedByField p ≡ pagedFields e = simp (mul-one, add-zero, div-add-mod') in
+    rw (ha, hb, hc, hd) (regroup-pack pagedByWord pagedByField p refl refl ∙ ap (pack pagedWidths) fields)
+
+unfoldable pub pagedRead : Words → Entry → Entry
+pagedRead w m = record {
+  kind = m .kind;
+  base = m .base;
+  length = w .b / 2 ^ 29 % 2 ^ 32;
+  count = m .count;
+  holder = m .holder;
+  user = w .c % 2 ^ 54 * 1024 + w .d / 2 ^ 54;
+  parent = m .parent;
+  page = w .a % 2 ^ 61 * 8 + w .b / 2 ^ 61;
+  zeros = w .b % 2 ^ 29 * 1024 + w .c / 2 ^ 54;
+  permissions = m .permissions;
+  locked = m .locked;
+  lockable = m .lockable;
+  cow = m .cow;
+  tag = m .tag;
+  nonce = m .nonce;
+}
+
+pub paged-read : (w : Words) {m : Entry} → Fit wordWidths (wordList w) → m ≡ endFrom 3 (unpack endWidths (w .d)) → pagedRead w m ≡ pagedOf (wordsNumber w)
+unfolding pagedRead pagedOf wordsNumber
+paged-read w h hm =
+    let same : pagedRead w (endFrom 3 (unpack endWidths (w .d))) ≡ pagedFrom (groups pagedByField (cut pagedByWord (wordList w))) =
+    simp (mul-one, add-zero, div-one, shr-mod 3 61 (h .1 .0), shr-mod 10 54 (h .1 .1 .0), shr-mod 10 54 (h .1 .1 .1 .0)) in
+    rw hm (same ∙ ap pagedFrom (sym (regroup-unpack pagedByWord pagedByField (wordList w) refl h)))
+
 -- what all entries end with stands in the last word, and the type in the first
-pub end-read : (w : Words) → Fit wordWidths (wordList w) → unpack endWidths (wordsNumber w) ≡ unpack endWidths (w .d)
+end-read : (w : Words) → Fit wordWidths (wordList w) → unpack endWidths (wordsNumber w) ≡ unpack endWidths (w .d)
 unfolding wordsNumber
 end-read w h =
     ap (drop 6) (regroup-unpack directByWord directByField (wordList w) refl h) ∙ simp (mul-one, add-zero)
@@ -142,23 +191,34 @@ entry-as n q = ap (λ (x : ℕ). unpackAs x n) q
 pub entry-read : (w : Words) → Fit wordWidths (wordList w) → {k : ℕ} → w .a / 2 ^ 61 ≡ k → entryOf (wordsNumber w) ≡ unpackAs k (wordsNumber w)
 entry-read w h q = entry-as (wordsNumber w) (type-read w h ∙ q)
 
--- a type that is neither direct nor indirect
-pub unpack-other : (k n : ℕ) → (k ≡ 1 → ⊥) → (k ≡ 2 → ⊥) → unpackAs k n ≡ endFrom k (unpack endWidths n)
-unpack-other zero n a b = refl
-unpack-other (suc zero) n a b = absurd (a refl)
-unpack-other (suc (suc zero)) n a b = absurd (b refl)
-unpack-other (suc (suc (suc k))) n a b = refl
+-- a type with no layout of its own
+unpack-other : (k n : ℕ) → (k ≡ 1 → ⊥) → (k ≡ 2 → ⊥) → (k ≡ 3 → ⊥) → unpackAs k n ≡ endFrom k (unpack endWidths n)
+unpack-other zero n a b c = refl
+unpack-other (suc zero) n a b c = absurd (a refl)
+unpack-other (suc (suc zero)) n a b c = absurd (b refl)
+unpack-other (suc (suc (suc zero))) n a b c = absurd (c refl)
+unpack-other (suc (suc (suc (suc k)))) n a b c = refl
+
+-- one that is neither direct nor indirect has no base and no count
+no-base : (k n : ℕ) → (k ≡ 1 → ⊥) → (k ≡ 2 → ⊥) → (0 ≡ unpackAs k n .base) × (0 ≡ unpackAs k n .count)
+unfolding pagedOf
+no-base zero n a b = (refl, refl)
+no-base (suc zero) n a b = absurd (a refl)
+no-base (suc (suc zero)) n a b = absurd (b refl)
+no-base (suc (suc (suc zero))) n a b = (refl, refl)
+no-base (suc (suc (suc (suc k)))) n a b = (refl, refl)
 
 -- what all types have, read of the words: the type, and what entries end with
 abbrev pub shared : Entry → Entry
-shared e = record { kind = e .kind; base = 0; length = 0; count = 0; holder = 0; user = 0; parent = 0; zeros = 0; permissions = e .permissions; locked = e .locked; lockable = e .lockable; cow = e .cow; tag = e .tag; nonce = e .nonce }
+shared e = record { kind = e .kind; base = 0; length = 0; count = 0; holder = 0; user = 0; parent = 0; page = 0; zeros = 0; permissions = e .permissions; locked = e .locked; lockable = e .lockable; cow = e .cow; tag = e .tag; nonce = e .nonce }
 
-shared-as : (k n : ℕ) → shared (unpackAs k n) ≡ endFrom k (unpack endWidths n)
-unfolding directOf indirectOf
+pub shared-as : (k n : ℕ) → shared (unpackAs k n) ≡ endFrom k (unpack endWidths n)
+unfolding directOf indirectOf pagedOf
 shared-as zero n = refl
 shared-as (suc zero) n = refl
 shared-as (suc (suc zero)) n = refl
-shared-as (suc (suc (suc k))) n = refl
+shared-as (suc (suc (suc zero))) n = refl
+shared-as (suc (suc (suc (suc k)))) n = refl
 
 pub shared-read : (w : Words) → Fit wordWidths (wordList w) → endFrom (w .a / 2 ^ 61) (unpack endWidths (w .d)) ≡ shared (entryOf (wordsNumber w))
 shared-read w h =
@@ -172,21 +232,28 @@ direct-at w h k = direct-read w h refl ∙ sym (entry-read w h k)
 pub indirect-at : (w : Words) → Fit wordWidths (wordList w) → w .a / 2 ^ 61 ≡ 2 → indirectRead w (endFrom 2 (unpack endWidths (w .d))) ≡ entryOf (wordsNumber w)
 indirect-at w h k = indirect-read w h refl ∙ sym (entry-read w h k)
 
-pub other-at : (w : Words) → Fit wordWidths (wordList w) → (w .a / 2 ^ 61 ≡ 1 → ⊥) → (w .a / 2 ^ 61 ≡ 2 → ⊥) → endFrom (w .a / 2 ^ 61) (unpack endWidths (w .d)) ≡ entryOf (wordsNumber w)
-other-at w h a b =
-    let k : ℕ = w .a / 2 ^ 61 in
-    ap (endFrom k) (sym (end-read w h)) ∙ sym (entry-read w h refl ∙ unpack-other k (wordsNumber w) a b)
+pub paged-at : (w : Words) → Fit wordWidths (wordList w) → w .a / 2 ^ 61 ≡ 3 → pagedRead w (endFrom 3 (unpack endWidths (w .d))) ≡ entryOf (wordsNumber w)
+paged-at w h k = paged-read w h refl ∙ sym (entry-read w h k)
 
-pack-other : (k : ℕ) (e : Entry) → (k ≡ 1 → ⊥) → (k ≡ 2 → ⊥) → packAs k e ≡ freeNumber e
-pack-other zero e a b = refl
-pack-other (suc zero) e a b = absurd (a refl)
-pack-other (suc (suc zero)) e a b = absurd (b refl)
-pack-other (suc (suc (suc k))) e a b = refl
+pub other-at : (w : Words) → Fit wordWidths (wordList w) → (w .a / 2 ^ 61 ≡ 1 → ⊥) → (w .a / 2 ^ 61 ≡ 2 → ⊥) → (w .a / 2 ^ 61 ≡ 3 → ⊥) → endFrom (w .a / 2 ^ 61) (unpack endWidths (w .d)) ≡ entryOf (wordsNumber w)
+other-at w h a b c =
+    let k : ℕ = w .a / 2 ^ 61 in
+    ap (endFrom k) (sym (end-read w h)) ∙ sym (entry-read w h refl ∙ unpack-other k (wordsNumber w) a b c)
+
+pub no-base-at : (w : Words) → Fit wordWidths (wordList w) → (w .a / 2 ^ 61 ≡ 1 → ⊥) → (w .a / 2 ^ 61 ≡ 2 → ⊥) → (0 ≡ entryOf (wordsNumber w) .base) × (0 ≡ entryOf (wordsNumber w) .count)
+no-base-at w h a b = rw (entry-read w h refl) (no-base (w .a / 2 ^ 61) (wordsNumber w) a b)
+
+pack-other : (k : ℕ) (e : Entry) → (k ≡ 1 → ⊥) → (k ≡ 2 → ⊥) → (k ≡ 3 → ⊥) → packAs k e ≡ freeNumber e
+pack-other zero e a b c = refl
+pack-other (suc zero) e a b c = absurd (a refl)
+pack-other (suc (suc zero)) e a b c = absurd (b refl)
+pack-other (suc (suc (suc zero))) e a b c = absurd (c refl)
+pack-other (suc (suc (suc (suc k)))) e a b c = refl
 
 -- a type with no layout is written as a free entry with its tag, whatever its other fields
-pub as-free : (e : Entry) → (e .kind ≡ 1 → ⊥) → (e .kind ≡ 2 → ⊥) → entryNumber (freed (e .tag)) ≡ entryNumber e
+pub as-free : (e : Entry) → (e .kind ≡ 1 → ⊥) → (e .kind ≡ 2 → ⊥) → (e .kind ≡ 3 → ⊥) → entryNumber (freed (e .tag)) ≡ entryNumber e
 unfolding entryNumber freeNumber
-as-free e a b = sym (pack-other (e .kind) e a b)
+as-free e a b c = sym (pack-other (e .kind) e a b c)
 
 -- ---- what was packed is read again
 
@@ -231,37 +298,49 @@ free-words g h = rw (mod-eq-of-lt (shifted g h)) (simp (zero-mul, zero-add, mul-
     shifted g h = omega arith
 
 pub round : (e : Entry) → Storable e → entryOf (entryNumber e) ≡ e
-unfolding entryOf entryNumber freeNumber directNumber indirectNumber directOf indirectOf
+unfolding entryOf entryNumber freeNumber directNumber indirectNumber pagedNumber directOf indirectOf pagedOf
 round e (isFree {g} h i) = rw i (free-round g h)
-round e (isDirect k p z f) =
-    let n : ℕ = pack directWidths (directFields e) in
-    let type : typeOf n ≡ 1 = ap (λ l. getD l 0 0) (unpack-pack directWidths (directFields e) f) in
-    let same : directFrom (directFields e) ≡ e = λ i. record { kind = sym k i; base = e .base; length = e .length; count = e .count; holder = e .holder; user = e .user; parent = sym p i; zeros = sym z i; permissions = e .permissions; locked = bit-eqb (e .locked) i; lockable = bit-eqb (e .lockable) i; cow = bit-eqb (e .cow) i; tag = e .tag; nonce = e .nonce } in
-    ap entryOf (number-as e k) ∙ entry-as n type ∙ read-as directWidths (directFields e) directFrom e f same
-round e (isIndirect k h u f) =
-    let n : ℕ = pack indirectWidths (indirectFields e) in
-    let type : typeOf n ≡ 2 = ap (λ l. getD l 0 0) (unpack-pack indirectWidths (indirectFields e) f) in
-    let same : indirectFrom (indirectFields e) ≡ e = λ i. record { kind = sym k i; base = e .base; length = e .length; count = e .count; holder = sym h i; user = sym u i; parent = e .parent; zeros = e .zeros; permissions = e .permissions; locked = bit-eqb (e .locked) i; lockable = bit-eqb (e .lockable) i; cow = bit-eqb (e .cow) i; tag = e .tag; nonce = e .nonce } in
-    ap entryOf (number-as e k) ∙ entry-as n type ∙ read-as indirectWidths (indirectFields e) indirectFrom e f same
+round e (isDirect k p n z f) =
+    let m : ℕ = pack directWidths (directFields e) in
+    let type : typeOf m ≡ 1 = ap (λ l. getD l 0 0) (unpack-pack directWidths (directFields e) f) in
+    let same : directFrom (directFields e) ≡ e = λ i. record { kind = sym k i; base = e .base; length = e .length; count = e .count; holder = e .holder; user = e .user; parent = sym p i; page = sym n i; zeros = sym z i; permissions = e .permissions; locked = bit-eqb (e .locked) i; lockable = bit-eqb (e .lockable) i; cow = bit-eqb (e .cow) i; tag = e .tag; nonce = e .nonce } in
+    ap entryOf (number-as e k) ∙ entry-as m type ∙ read-as directWidths (directFields e) directFrom e f same
+round e (isIndirect k h u n f) =
+    let m : ℕ = pack indirectWidths (indirectFields e) in
+    let type : typeOf m ≡ 2 = ap (λ l. getD l 0 0) (unpack-pack indirectWidths (indirectFields e) f) in
+    let same : indirectFrom (indirectFields e) ≡ e = λ i. record { kind = sym k i; base = e .base; length = e .length; count = e .count; holder = sym h i; user = sym u i; parent = e .parent; page = sym n i; zeros = e .zeros; permissions = e .permissions; locked = bit-eqb (e .locked) i; lockable = bit-eqb (e .lockable) i; cow = bit-eqb (e .cow) i; tag = e .tag; nonce = e .nonce } in
+    ap entryOf (number-as e k) ∙ entry-as m type ∙ read-as indirectWidths (indirectFields e) indirectFrom e f same
+round e (isPaged k b c h p f) =
+    let m : ℕ = pack pagedWidths (pagedFields e) in
+    let type : typeOf m ≡ 3 = ap (λ l. getD l 0 0) (unpack-pack pagedWidths (pagedFields e) f) in
+    let same : pagedFrom (pagedFields e) ≡ e = λ i. record { kind = sym k i; base = sym b i; length = e .length; count = sym c i; holder = sym h i; user = e .user; parent = sym p i; page = e .page; zeros = e .zeros; permissions = e .permissions; locked = bit-eqb (e .locked) i; lockable = bit-eqb (e .lockable) i; cow = bit-eqb (e .cow) i; tag = e .tag; nonce = e .nonce } in
+    ap entryOf (number-as e k) ∙ entry-as m type ∙ read-as pagedWidths (pagedFields e) pagedFrom e f same
 
 -- the words of an entry as it is issued are read as that entry
 pub direct-issued : (b l u p : ℕ) (k : Bool) → b < 2 ^ 32 → l < 2 ^ 32 → u < 2 ^ 64 → p < 8 → {n : ℕ} → n ≡ directNumber (direct b l u p k 0 0) → entryOf n ≡ direct b l u p k 0 0
 direct-issued b l u p k hb hl hu hp q =
     let e : Entry = direct b l u p k 0 0 in
     let fit : Fit directWidths (directFields e) = (lit< tt, (hb, (hl, (lit< tt, (lit< tt, (hu, (hp, (lit< tt, (bit-lt k, (lit< tt, (lit< tt, (lit< tt, tt)))))))))))) in
-    ap entryOf (q ∙ sym (number-as e refl)) ∙ round e (isDirect refl refl refl fit)
+    ap entryOf (q ∙ sym (number-as e refl)) ∙ round e (isDirect refl refl refl refl fit)
 
 pub indirect-issued : (b l t p : ℕ) → b < 2 ^ 32 → l < 2 ^ 32 → t < 2 ^ 64 → p < 8 → {n : ℕ} → n ≡ indirectNumber (indirect b l t p 0 0) → entryOf n ≡ indirect b l t p 0 0
 indirect-issued b l t p hb hl ht hp q =
     let e : Entry = indirect b l t p 0 0 in
     let fit : Fit indirectWidths (indirectFields e) = (lit< tt, (hb, (ht, (hl, (lit< tt, (lit< tt, (hp, (lit< tt, (lit< tt, (lit< tt, (lit< tt, (lit< tt, tt)))))))))))) in
-    ap entryOf (q ∙ sym (number-as e refl)) ∙ round e (isIndirect refl refl refl fit)
+    ap entryOf (q ∙ sym (number-as e refl)) ∙ round e (isIndirect refl refl refl refl fit)
+
+pub paged-issued : (m l u p : ℕ) (k : Bool) → m < 2 ^ 64 → l < 2 ^ 32 → u < 2 ^ 64 → p < 8 → {n : ℕ} → n ≡ pagedNumber (paged m l u p k 0 0) → entryOf n ≡ paged m l u p k 0 0
+paged-issued m l u p k hm hl hu hp q =
+    let e : Entry = paged m l u p k 0 0 in
+    let fit : Fit pagedWidths (pagedFields e) = (lit< tt, (hm, (hl, (lit< tt, (hu, (hp, (lit< tt, (bit-lt k, (lit< tt, (lit< tt, (lit< tt, tt))))))))))) in
+    ap entryOf (q ∙ sym (number-as e refl)) ∙ round e (isPaged refl refl refl refl refl fit)
 
 pub number-lt : (e : Entry) → Storable e → entryNumber e < 2 ^ 256
-unfolding entryNumber freeNumber directNumber indirectNumber
+unfolding entryNumber freeNumber directNumber indirectNumber pagedNumber
 number-lt e (isFree {g} h i) = rw i (subst (λ n. n < 2 ^ 256) (free-wide g) (pack-lt directWidths (freeWide g) (free-wide-fit g h)))
-number-lt e (isDirect k p z f) = subst (λ n. n < 2 ^ 256) (sym (number-as e k)) (pack-lt directWidths (directFields e) f)
-number-lt e (isIndirect k h u f) = subst (λ n. n < 2 ^ 256) (sym (number-as e k)) (pack-lt indirectWidths (indirectFields e) f)
+number-lt e (isDirect k p n z f) = subst (λ n. n < 2 ^ 256) (sym (number-as e k)) (pack-lt directWidths (directFields e) f)
+number-lt e (isIndirect k h u n f) = subst (λ n. n < 2 ^ 256) (sym (number-as e k)) (pack-lt indirectWidths (indirectFields e) f)
+number-lt e (isPaged k b c h p f) = subst (λ n. n < 2 ^ 256) (sym (number-as e k)) (pack-lt pagedWidths (pagedFields e) f)
 
 -- ---- what is read packs to the same number
 
@@ -283,25 +362,26 @@ indirect-fields : (n : ℕ) → typeOf n ≡ 2 → indirectFields (indirectOf n)
 unfolding indirectOf
 indirect-fields n t = rw t (ap (λ l. 2 ∷ indirectOf n .base ∷ indirectOf n .parent ∷ indirectOf n .length ∷ indirectOf n .count ∷ indirectOf n .zeros ∷ l) (end-back 2 n))
 
+paged-fields : (n : ℕ) → typeOf n ≡ 3 → pagedFields (pagedOf n) ≡ unpack pagedWidths n
+unfolding pagedOf
+paged-fields n t = rw t (ap (λ l. 3 ∷ pagedOf n .page ∷ pagedOf n .length ∷ pagedOf n .zeros ∷ pagedOf n .user ∷ l) (end-back 3 n))
+
 -- fields that were read of a number pack to it
 pack-as : (ws fs : List ℕ) (n : ℕ) → n < 2 ^ bits ws → fs ≡ unpack ws n → pack ws fs ≡ n
 pack-as ws fs n l h = ap (pack ws) h ∙ pack-unpack ws n ∙ mod-eq-of-lt l
 
 pub back : (n : ℕ) → n < 2 ^ 256 → Laid (typeOf n) → entryNumber (entryOf n) ≡ n
-unfolding directNumber indirectNumber directOf indirectOf
+unfolding directNumber indirectNumber pagedNumber directOf indirectOf pagedOf
 back n l (laidDirect t) = ap entryNumber (entry-as n t) ∙ number-as (directOf n) refl ∙ pack-as directWidths (directFields (directOf n)) n l (direct-fields n t)
 back n l (laidIndirect t) = ap entryNumber (entry-as n t) ∙ number-as (indirectOf n) refl ∙ pack-as indirectWidths (indirectFields (indirectOf n)) n l (indirect-fields n t)
+back n l (laidPaged t) = ap entryNumber (entry-as n t) ∙ number-as (pagedOf n) refl ∙ pack-as pagedWidths (pagedFields (pagedOf n)) n l (paged-fields n t)
 
 -- tag and nonce of what is read fit
 pub read-small : (n : ℕ) → (entryOf n .tag < 2 ^ 16) × (entryOf n .nonce < 2 ^ 32)
-unfolding entryOf directOf indirectOf
-read-small n = go (typeOf n)
-  where
-    go : (k : ℕ) → (unpackAs k n .tag < 2 ^ 16) × (unpackAs k n .nonce < 2 ^ 32)
-    go zero = (unpack-fit endWidths n .1 .1 .1 .1 .0, unpack-fit endWidths n .1 .1 .1 .1 .1 .0)
-    go (suc zero) = (unpack-fit endWidths n .1 .1 .1 .1 .0, unpack-fit endWidths n .1 .1 .1 .1 .1 .0)
-    go (suc (suc zero)) = (unpack-fit endWidths n .1 .1 .1 .1 .0, unpack-fit endWidths n .1 .1 .1 .1 .1 .0)
-    go (suc (suc (suc k))) = (unpack-fit endWidths n .1 .1 .1 .1 .0, unpack-fit endWidths n .1 .1 .1 .1 .1 .0)
+unfolding entryOf
+read-small n =
+    let h = unpack-fit endWidths n in
+    subst (λ (e : Entry). (e .tag < 2 ^ 16) × (e .nonce < 2 ^ 32)) (sym (shared-as (typeOf n) n)) (h .1 .1 .1 .1 .0, h .1 .1 .1 .1 .1 .0)
 
 -- the words of an entry with a layout are those of what is read of them
 words-back : (w : Words) {e : Entry} → Fit wordWidths (wordList w) → Laid (w .a / 2 ^ 61) → e ≡ entryOf (wordsNumber w) → wordsNumber w ≡ entryNumber e
@@ -354,11 +434,19 @@ module _ (w : Words) (k x : ℕ) (f : Fit wordWidths (wordList w)) (hx : x < 2 ^
       let same : recounted (indirectRead w m) k ≡ indirectRead v m = rw (z .above, z .count, z .below) in
       words-back v g (laidIndirect t) (ap (λ (e : Entry). recounted e k) (sym (indirect-at w f t)) ∙ same ∙ indirect-at v g t)
 
+-- an entry that is paged out has no count
+pub recount-paged : (w : Words) (k : ℕ) → Fit wordWidths (wordList w) → w .a / 2 ^ 61 ≡ 3 → wordsNumber w ≡ entryNumber (recounted (entryOf (wordsNumber w)) k)
+unfolding pagedNumber
+recount-paged w k f t =
+    let e : Entry = entryOf (wordsNumber w) in
+    let paged : e .kind ≡ 3 = sym (ap (λ (x : Entry). x .kind) (shared-read w f)) ∙ t in
+    words-back w f (laidPaged t) refl ∙ number-as e paged ∙ sym (number-as (recounted e k) paged)
+
 -- the same for words of which another entry of the same type is made, where x is what a free entry with its tag is written as
-pub other-words : (w : Words) (e : Entry) {g x : ℕ} → Fit wordWidths (wordList w) → (w .a / 2 ^ 61 ≡ 1 → ⊥) → (w .a / 2 ^ 61 ≡ 2 → ⊥) → e .kind ≡ entryOf (wordsNumber w) .kind → g ≡ e .tag → x ≡ entryNumber (freed g) → x ≡ entryNumber e
-other-words w e f a b k t q =
+pub other-words : (w : Words) (e : Entry) {g x : ℕ} → Fit wordWidths (wordList w) → (w .a / 2 ^ 61 ≡ 1 → ⊥) → (w .a / 2 ^ 61 ≡ 2 → ⊥) → (w .a / 2 ^ 61 ≡ 3 → ⊥) → e .kind ≡ entryOf (wordsNumber w) .kind → g ≡ e .tag → x ≡ entryNumber (freed g) → x ≡ entryNumber e
+other-words w e f a b c k t q =
     let kind : e .kind ≡ w .a / 2 ^ 61 = k ∙ sym (ap (λ (y : Entry). y .kind) (shared-read w f)) in
-    q ∙ ap (λ (g : ℕ). entryNumber (freed g)) t ∙ as-free e (λ h. a (sym kind ∙ h)) (λ h. b (sym kind ∙ h))
+    q ∙ ap (λ (g : ℕ). entryNumber (freed g)) t ∙ as-free e (λ h. a (sym kind ∙ h)) (λ h. b (sym kind ∙ h)) (λ h. c (sym kind ∙ h))
 
 -- the last word around one bit, and all its fields
 last-sum : (u p b k c g n : ℕ) → pack (13 ∷ 1 ∷ 50 ∷ []) ((u * 8 + p) ∷ b ∷ (k * 2 ^ 49 + (c * 2 ^ 48 + (g * 2 ^ 32 + n))) ∷ []) ≡ pack (10 ∷ endWidths) (u ∷ p ∷ b ∷ k ∷ c ∷ g ∷ n ∷ [])
@@ -376,7 +464,7 @@ last-fields d b =
     ∙ last-sum (d / 2 ^ 54) (d / 2 ^ 51 % 8) b (d / 2 ^ 49 % 2) (d / 2 ^ 48 % 2) (d / 2 ^ 32 % 2 ^ 16) (d % 2 ^ 32)
 
 -- the words with another lock
-module _ (w : Words) (l : Bool) (h x y z : ℕ) (f : Fit wordWidths (wordList w)) (hz : z < 2 ^ 64)
+module _ (w : Words) (l : Bool) (h z : ℕ) (f : Fit wordWidths (wordList w)) (hz : z < 2 ^ 64)
     (qz : z ≡ pack (13 ∷ 1 ∷ 50 ∷ []) (w .d / 2 ^ 51 ∷ bit l ∷ w .d % 2 ^ 50 ∷ [])) where
   lasts : unpack (10 ∷ endWidths) z ≡ w .d / 2 ^ 54 ∷ w .d / 2 ^ 51 % 8 ∷ bit l ∷ w .d / 2 ^ 49 % 2 ∷ w .d / 2 ^ 48 % 2 ∷ w .d / 2 ^ 32 % 2 ^ 16 ∷ w .d % 2 ^ 32 ∷ []
   lasts =
@@ -389,19 +477,32 @@ module _ (w : Words) (l : Bool) (h x y z : ℕ) (f : Fit wordWidths (wordList w)
 
   -- what all entries end with, with the new Locked
   abbrev ending : ℕ → Entry
-  ending k = record { kind = k; base = 0; length = 0; count = 0; holder = 0; user = 0; parent = 0; zeros = 0; permissions = w .d / 2 ^ 51 % 8; locked = l; lockable = eqb (w .d / 2 ^ 49 % 2) 1; cow = eqb (w .d / 2 ^ 48 % 2) 1; tag = w .d / 2 ^ 32 % 2 ^ 16; nonce = w .d / 2 ^ 0 % 2 ^ 32 }
+  ending k = record { kind = k; base = 0; length = 0; count = 0; holder = 0; user = 0; parent = 0; page = 0; zeros = 0; permissions = w .d / 2 ^ 51 % 8; locked = l; lockable = eqb (w .d / 2 ^ 49 % 2) 1; cow = eqb (w .d / 2 ^ 48 % 2) 1; tag = w .d / 2 ^ 32 % 2 ^ 16; nonce = w .d / 2 ^ 0 % 2 ^ 32 }
 
   ended : (k : ℕ) → endFrom k (unpack endWidths z) ≡ ending k
   ended k = ap (endFrom k) (ap (drop 1) lasts) ∙ rw (bit-eqb l, div-one (w .d))
 
-  pub relock-direct : x < 2 ^ 64 → y < 2 ^ 64 → h < 2 ^ 55 → w .a / 2 ^ 61 ≡ 1
+  -- of words that are read as those of a type k
+  relock-as : (k x y : ℕ) (read : Words → Entry → Entry) → Laid k → x < 2 ^ 64 → y < 2 ^ 64
+      → ((v : Words) → Fit wordWidths (wordList v) → v .a / 2 ^ 61 ≡ k → read v (endFrom k (unpack endWidths (v .d))) ≡ entryOf (wordsNumber v))
+      → entryNumber (read (record { a = w .a; b = x; c = y; d = z }) (ending k)) ≡ entryNumber (relocked (read w (endFrom k (unpack endWidths (w .d)))) l h)
+      → w .a / 2 ^ 61 ≡ k
+      → wordsNumber (record { a = w .a; b = x; c = y; d = z }) ≡ entryNumber (relocked (entryOf (wordsNumber w)) l h)
+  relock-as k x y read laid hx hy at same t =
+      let v : Words = record { a = w .a; b = x; c = y; d = z } in
+      let g : Fit wordWidths (wordList v) = (f .0, (hx, (hy, (hz, tt)))) in
+      words-back v g (subst Laid (sym t) laid) (at v g t)
+      ∙ ap (λ (o : Entry). entryNumber (read v o)) (ended k)
+      ∙ same
+      ∙ ap (λ (o : Entry). entryNumber (relocked o l h)) (at w f t)
+
+  pub relock-direct : (x y : ℕ) → x < 2 ^ 64 → y < 2 ^ 64 → h < 2 ^ 55 → w .a / 2 ^ 61 ≡ 1
       → x ≡ pack (3 ∷ 16 ∷ 45 ∷ []) (w .b / 2 ^ 61 ∷ w .b / 2 ^ 45 % 2 ^ 16 ∷ h / 1024 ∷ [])
       → y ≡ pack (10 ∷ 54 ∷ []) (h % 1024 ∷ w .c % 2 ^ 54 * 1024 / 1024 ∷ [])
       → wordsNumber (record { a = w .a; b = x; c = y; d = z }) ≡ entryNumber (relocked (entryOf (wordsNumber w)) l h)
   unfolding directRead
-  relock-direct hx hy hh t qx qy =
+  relock-direct x y hx hy hh t qx qy =
       let v : Words = record { a = w .a; b = x; c = y; d = z } in
-      let g : Fit wordWidths (wordList v) = (f .0, (hx, (hy, (hz, tt)))) in
       let m : Entry = endFrom 1 (unpack endWidths (w .d)) in
       let q45 : w .c % 2 ^ 54 * 1024 / 1024 ≡ w .c % 2 ^ 54 = omega arith in
       let bs : unpack (3 ∷ 16 ∷ 45 ∷ []) x ≡ w .b / 2 ^ 61 ∷ w .b / 2 ^ 45 % 2 ^ 16 ∷ h / 1024 ∷ [] = ap (unpack (3 ∷ 16 ∷ 45 ∷ [])) qx ∙ unpack-pack (3 ∷ 16 ∷ 45 ∷ []) _ (shr-lt 3 61 (f .1 .0), (mod-lt (w .b / 2 ^ 45) (pow-pos 16), (shr-lt 45 10 hh, tt))) in
@@ -412,38 +513,57 @@ module _ (w : Words) (l : Bool) (h x y z : ℕ) (f : Fit wordWidths (wordList w)
       let c1 : y / 2 ^ 54 ≡ h % 1024 = sym (shr-mod 10 54 hy) ∙ ap (λ n. getD n 0 0) cs in
       let c2 : y % 2 ^ 54 ≡ w .c % 2 ^ 54 = ap (λ (n : ℕ). n % 2 ^ 54) (sym (div-one y)) ∙ ap (λ n. getD n 1 0) cs in
       let whole : h / 1024 * 1024 + h % 1024 ≡ h = omega arith in
-      let same : relocked (directRead w m) l h ≡ directRead v (ending 1) = rw (b1, b2, b3, c1, c2, above, whole) in
-      words-back v g (laidDirect t) (ap (λ (e : Entry). relocked e l h) (sym (direct-at w f t)) ∙ same ∙ ap (directRead v) (sym (ended 1)) ∙ direct-at v g t)
+      let same : directRead v (ending 1) ≡ relocked (directRead w m) l h = rw (b1, b2, b3, c1, c2, above, whole) in
+      relock-as 1 x y directRead (laidDirect refl) hx hy direct-at (ap entryNumber same) t
 
-  pub relock-indirect : w .a / 2 ^ 61 ≡ 2 → wordsNumber (record { a = w .a; b = w .b; c = w .c; d = z }) ≡ entryNumber (relocked (entryOf (wordsNumber w)) l h)
+  -- a type that has no holder: only Locked changes
+  abbrev Relocked : Type 0
+  Relocked = wordsNumber (record { a = w .a; b = w .b; c = w .c; d = z }) ≡ entryNumber (relocked (entryOf (wordsNumber w)) l h)
+
+  pub relock-indirect : w .a / 2 ^ 61 ≡ 2 → Relocked
   unfolding indirectRead indirectNumber
   relock-indirect t =
-      let v : Words = record { a = w .a; b = w .b; c = w .c; d = z } in
-      let g : Fit wordWidths (wordList v) = (f .0, (f .1 .0, (f .1 .1 .0, (hz, tt)))) in
       let e : Entry = relocked (indirectRead w (endFrom 2 (unpack endWidths (w .d)))) l h in
-      let e′ : Entry = indirectRead v (endFrom 2 (unpack endWidths z)) in
+      let v : Words = record { a = w .a; b = w .b; c = w .c; d = z } in
       let same : indirectFields (indirectRead v (ending 2)) ≡ indirectFields e = rw above in
-      words-back v g (laidIndirect t) (indirect-at v g t)
-      ∙ number-as e′ refl
-      ∙ ap (pack indirectWidths) (ap (λ (o : Entry). indirectFields (indirectRead v o)) (ended 2) ∙ same)
-      ∙ sym (number-as e refl)
-      ∙ ap (λ (o : Entry). entryNumber (relocked o l h)) (indirect-at w f t)
+      relock-as 2 (w .b) (w .c) indirectRead (laidIndirect refl) (f .1 .0) (f .1 .1 .0) indirect-at (number-as (indirectRead v (ending 2)) refl ∙ ap (pack indirectWidths) same ∙ sym (number-as e refl)) t
+
+  pub relock-paged : w .a / 2 ^ 61 ≡ 3 → Relocked
+  unfolding pagedRead pagedNumber
+  relock-paged t =
+      let e : Entry = relocked (pagedRead w (endFrom 3 (unpack endWidths (w .d)))) l h in
+      let v : Words = record { a = w .a; b = w .b; c = w .c; d = z } in
+      let same : pagedFields (pagedRead v (ending 3)) ≡ pagedFields e = rw above in
+      relock-as 3 (w .b) (w .c) pagedRead (laidPaged refl) (f .1 .0) (f .1 .1 .0) paged-at (number-as (pagedRead v (ending 3)) refl ∙ ap (pack pagedWidths) same ∙ sym (number-as e refl)) t
 
 -- and can be packed with nothing lost
 pub read-storable : (n : ℕ) → Laid (typeOf n) → Storable (entryOf n)
-unfolding directOf indirectOf
+unfolding directOf indirectOf pagedOf
 read-storable n (laidDirect t) =
-    subst Storable (sym (entry-as n t)) (isDirect refl refl refl (subst (Fit directWidths) (sym (direct-fields n t)) (unpack-fit directWidths n)))
+    subst Storable (sym (entry-as n t)) (isDirect refl refl refl refl (subst (Fit directWidths) (sym (direct-fields n t)) (unpack-fit directWidths n)))
 read-storable n (laidIndirect t) =
-    subst Storable (sym (entry-as n t)) (isIndirect refl refl refl (subst (Fit indirectWidths) (sym (indirect-fields n t)) (unpack-fit indirectWidths n)))
+    subst Storable (sym (entry-as n t)) (isIndirect refl refl refl refl (subst (Fit indirectWidths) (sym (indirect-fields n t)) (unpack-fit indirectWidths n)))
+read-storable n (laidPaged t) =
+    subst Storable (sym (entry-as n t)) (isPaged refl refl refl refl refl (subst (Fit pagedWidths) (sym (paged-fields n t)) (unpack-fit pagedWidths n)))
 
 -- the test is the condition
 pub packable-fits : (e : Entry) → packable e ≡ true → Fits e
 packable-fits e h =
     let zeros = both _ _ h in
     let holder = both _ _ (zeros .0) in
-    let permissions = both (ltb (e .kind) 3) _ (holder .0) in
+    let permissions = both (ltb (e .kind) 4) _ (holder .0) in
     record { permissions = ltb-true _ _ (permissions .1); holder = ltb-true _ _ (holder .1); zeros = ltb-true _ _ (zeros .1) }
+
+-- the field of zeros has 55 bits at most, and 39 in an entry that is paged out
+pub zeros-lt : (e : Entry) → Fits e → e .zeros < 2 ^ 55
+zeros-lt e f = go (eqb (e .kind) 3) (f .zeros)
+  where
+    go : (paged : Bool) → e .zeros < 2 ^ cond paged 39 55 → e .zeros < 2 ^ 55
+    go true h = lt-of-lt-of-le h (lit≤ tt)
+    go false h = h
+
+pub paged-zeros-lt : (e : Entry) → Fits e → e .kind ≡ 3 → e .zeros < 2 ^ 39
+paged-zeros-lt e f k = rw k at (f .zeros)
 
 -- entries as they are issued fit, and so does whatever is read
 pub direct-fits : (b l u p : ℕ) (k : Bool) (g ν : ℕ) → p < 8 → Fits (direct b l u p k g ν)
@@ -456,11 +576,12 @@ pub free-fits : Fits free
 free-fits = record { permissions = omega arith; holder = omega arith; zeros = omega arith }
 
 pub read-fits : (n : ℕ) → Fits (entryOf n)
-unfolding entryOf directOf indirectOf
+unfolding entryOf directOf indirectOf pagedOf
 read-fits n = go (typeOf n)
   where
     go : (k : ℕ) → Fits (unpackAs k n)
     go zero = record { permissions = unpack-fit endWidths n .0; holder = omega arith; zeros = omega arith }
     go (suc zero) = record { permissions = unpack-fit endWidths n .0; holder = unpack-fit directWidths n .1 .1 .1 .1 .0; zeros = omega arith }
     go (suc (suc zero)) = record { permissions = unpack-fit endWidths n .0; holder = omega arith; zeros = unpack-fit indirectWidths n .1 .1 .1 .1 .1 .0 }
-    go (suc (suc (suc k))) = record { permissions = unpack-fit endWidths n .0; holder = omega arith; zeros = omega arith }
+    go (suc (suc (suc zero))) = record { permissions = unpack-fit endWidths n .0; holder = omega arith; zeros = unpack-fit pagedWidths n .1 .1 .1 .0 }
+    go (suc (suc (suc (suc k)))) = record { permissions = unpack-fit endWidths n .0; holder = omega arith; zeros = pow-pos _ }

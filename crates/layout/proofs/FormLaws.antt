@@ -7,12 +7,12 @@ use Prim.Native.Nat.{ℕ, zero, suc}
 use native.Mathlib.Omega.{arith}
 use lib.ListN.{replicate}
 use Rattle.bits.specs.Bytes.{bytes, number}
-use Rattle.layout.specs.Entry.{directOf, entryAt, entryBytes, entryNumber, entryOf, free, freeNumber, indirectOf, Laid, laidDirect, laidIndirect, Storable, typeOf, unpackAs}
+use Rattle.layout.specs.Entry.{entryAt, entryBytes, entryNumber, entryOf, free, freeNumber, Laid, laidDirect, laidIndirect, laidPaged, Storable, typeOf}
 use Rattle.bits.specs.Fields.{Fit}
 use Rattle.layout.specs.Form.{faultsOf, illFormed, orSome}
 use Rattle.layout.specs.declared.entry.Entry.{Entry}
 use Rattle.bits.proofs.ByteLaws.{bytes-number, number-bytes}
-use Rattle.layout.proofs.EntryLaws.{back, number-lt, round}
+use Rattle.layout.proofs.EntryLaws.{back, number-lt, round, shared-as}
 use Rattle.bits.proofs.FieldLaws.{pack-lt}
 
 -- locked without a holder, or a holder without the lock: the lock is there just if the holder is zero
@@ -27,24 +27,19 @@ pub ill-as : (m : ℕ) (e : Entry) {k : ℕ} → e .kind ≡ k → illFormed m e
 unfolding illFormed
 ill-as m e q = ap (λ (k : ℕ). orSome false (faultsOf k m e)) q
 
-pub ill-above : (m : ℕ) (e : Entry) (k : ℕ) → (k ≡ 0 → ⊥) → (k ≡ 1 → ⊥) → (k ≡ 2 → ⊥) → orSome false (faultsOf k m e) ≡ true
-ill-above m e zero a b c = absurd (a refl)
-ill-above m e (suc zero) a b c = absurd (b refl)
-ill-above m e (suc (suc zero)) a b c = absurd (c refl)
-ill-above m e (suc (suc (suc k))) a b c = refl
+pub ill-above : (m : ℕ) (e : Entry) (k : ℕ) → (k ≡ 0 → ⊥) → (k ≡ 1 → ⊥) → (k ≡ 2 → ⊥) → (k ≡ 3 → ⊥) → orSome false (faultsOf k m e) ≡ true
+ill-above m e zero a b c d = absurd (a refl)
+ill-above m e (suc zero) a b c d = absurd (b refl)
+ill-above m e (suc (suc zero)) a b c d = absurd (c refl)
+ill-above m e (suc (suc (suc zero))) a b c d = absurd (d refl)
+ill-above m e (suc (suc (suc (suc k)))) a b c d = refl
 
 -- the type that is read is the type that stands there
 kind-read : (n : ℕ) → entryOf n .kind ≡ typeOf n
-unfolding entryOf directOf indirectOf
-kind-read n = go (typeOf n)
-  where
-    go : (k : ℕ) → unpackAs k n .kind ≡ k
-    go zero = refl
-    go (suc zero) = refl
-    go (suc (suc zero)) = refl
-    go (suc (suc (suc k))) = refl
+unfolding entryOf
+kind-read n = ap (λ (e : Entry). e .kind) (shared-as (typeOf n) n)
 
--- an entry that is neither free nor ill-formed is direct or indirect
+-- an entry that is neither free nor ill-formed is direct, indirect or paged out
 pub laid : (m : ℕ) (e : Entry) → (e .kind ≡ 0 → ⊥) → illFormed m e ≡ false → Laid (e .kind)
 laid m e f h = go (e .kind) f (sym (ill-as m e refl) ∙ h)
   where
@@ -52,7 +47,8 @@ laid m e f h = go (e .kind) f (sym (ill-as m e refl) ∙ h)
     go zero f h = absurd (f refl)
     go (suc zero) f h = laidDirect refl
     go (suc (suc zero)) f h = laidIndirect refl
-    go (suc (suc (suc k))) f h = let z : _≡_ {A = ℕ} 0 1 = cc in absurd (omega arith)
+    go (suc (suc (suc zero))) f h = laidPaged refl
+    go (suc (suc (suc (suc k)))) f h = let z : _≡_ {A = ℕ} 0 1 = cc in absurd (omega arith)
 
 -- 32 bytes of an entry that is neither free nor ill-formed, read and written again, are the same bytes
 pub well-formed-back : (m : ℕ) (s : List ℕ) → Fit (replicate 32 8) s → (entryAt s .kind ≡ 0 → ⊥) → illFormed m (entryAt s) ≡ false → entryBytes (entryAt s) ≡ s

@@ -39,6 +39,7 @@ directFrom l = record {
   holder = getD l 4 0;
   user = getD l 5 0;
   parent = 0;
+  page = 0;
   zeros = 0;
   permissions = getD l 6 0;
   locked = eqb (getD l 7 0) 1;
@@ -64,6 +65,7 @@ indirectFrom l = record {
   holder = 0;
   user = 0;
   parent = getD l 2 0;
+  page = 0;
   zeros = getD l 5 0;
   permissions = getD l 6 0;
   locked = eqb (getD l 7 0) 1;
@@ -71,6 +73,32 @@ indirectFrom l = record {
   cow = eqb (getD l 9 0) 1;
   tag = getD l 10 0;
   nonce = getD l 11 0;
+}
+
+-- Paged out (02, paper 6): "type 3 (type, page-file number 64 as requested, length 32, 39 zeros, user 64, the rest as direct, unlocked)".
+abbrev pub pagedWidths : List ℕ
+pagedWidths = 3 ∷ 64 ∷ 32 ∷ 39 ∷ 64 ∷ endWidths
+
+abbrev pub pagedFields : Entry → List ℕ
+pagedFields e = 3 ∷ e .page ∷ e .length ∷ e .zeros ∷ e .user ∷ endFields e
+
+abbrev pub pagedFrom : List ℕ → Entry
+pagedFrom l = record {
+  kind = 3;
+  base = 0;
+  length = getD l 2 0;
+  count = 0;
+  holder = 0;
+  user = getD l 4 0;
+  parent = 0;
+  page = getD l 1 0;
+  zeros = getD l 3 0;
+  permissions = getD l 5 0;
+  locked = eqb (getD l 6 0) 1;
+  lockable = eqb (getD l 7 0) 1;
+  cow = eqb (getD l 8 0) 1;
+  tag = getD l 9 0;
+  nonce = getD l 10 0;
 }
 
 -- Any other type k: what it ends with, and nothing more.
@@ -83,6 +111,7 @@ endFrom k l = record {
   holder = 0;
   user = 0;
   parent = 0;
+  page = 0;
   zeros = 0;
   permissions = getD l 0 0;
   locked = eqb (getD l 1 0) 1;
@@ -113,6 +142,9 @@ directNumber e = pack directWidths (directFields e)
 unfoldable pub indirectNumber : Entry → ℕ
 indirectNumber e = pack indirectWidths (indirectFields e)
 
+unfoldable pub pagedNumber : Entry → ℕ
+pagedNumber e = pack pagedWidths (pagedFields e)
+
 unfoldable pub freeNumber : Entry → ℕ
 freeNumber e = pack endWidths (freeFields (e .tag))
 
@@ -122,12 +154,16 @@ directOf n = directFrom (unpack directWidths n)
 unfoldable pub indirectOf : ℕ → Entry
 indirectOf n = indirectFrom (unpack indirectWidths n)
 
--- the number that an entry is packed to, by its type; one above 2 has no layout here, and is packed as a free entry
+unfoldable pub pagedOf : ℕ → Entry
+pagedOf n = pagedFrom (unpack pagedWidths n)
+
+-- the number that an entry is packed to, by its type; one above 3 has no layout here, and is packed as a free entry
 abbrev pub packAs : ℕ → Entry → ℕ
 packAs zero e = freeNumber e
 packAs (suc zero) e = directNumber e
 packAs (suc (suc zero)) e = indirectNumber e
-packAs (suc (suc (suc k))) e = freeNumber e
+packAs (suc (suc (suc zero))) e = pagedNumber e
+packAs (suc (suc (suc (suc k)))) e = freeNumber e
 
 unfoldable pub entryNumber : Entry → ℕ
 entryNumber e = packAs (e .kind) e
@@ -137,7 +173,8 @@ abbrev pub unpackAs : ℕ → ℕ → Entry
 unpackAs zero n = endFrom 0 (unpack endWidths n)
 unpackAs (suc zero) n = directOf n
 unpackAs (suc (suc zero)) n = indirectOf n
-unpackAs (suc (suc (suc k))) n = endFrom (suc (suc (suc k))) (unpack endWidths n)
+unpackAs (suc (suc (suc zero))) n = pagedOf n
+unpackAs (suc (suc (suc (suc k)))) n = endFrom (suc (suc (suc (suc k)))) (unpack endWidths n)
 
 unfoldable pub entryOf : ℕ → Entry
 entryOf n = unpackAs (typeOf n) n
@@ -159,6 +196,7 @@ direct b l u p lockable g ν = record {
   holder = 0;
   user = u;
   parent = 0;
+  page = 0;
   zeros = 0;
   permissions = p;
   locked = false;
@@ -178,6 +216,7 @@ indirect b l t p g ν = record {
   holder = 0;
   user = 0;
   parent = t;
+  page = 0;
   zeros = 0;
   permissions = p;
   locked = false;
@@ -187,36 +226,62 @@ indirect b l t p g ν = record {
   nonce = ν;
 }
 
+-- an entry that is paged out, as it is issued: unlocked
+abbrev pub paged : (page length user permissions : ℕ) → Bool → (tag nonce : ℕ) → Entry
+paged f l u p lockable g ν = record {
+  kind = 3;
+  base = 0;
+  length = l;
+  count = 0;
+  holder = 0;
+  user = u;
+  parent = 0;
+  page = f;
+  zeros = 0;
+  permissions = p;
+  locked = false;
+  lockable = lockable;
+  cow = false;
+  tag = g;
+  nonce = ν;
+}
+
 -- the entry with another count
 abbrev pub recounted : Entry → ℕ → Entry
-recounted e k = record { kind = e .kind; base = e .base; length = e .length; count = k; holder = e .holder; user = e .user; parent = e .parent; zeros = e .zeros; permissions = e .permissions; locked = e .locked; lockable = e .lockable; cow = e .cow; tag = e .tag; nonce = e .nonce }
+recounted e k = record { kind = e .kind; base = e .base; length = e .length; count = k; holder = e .holder; user = e .user; parent = e .parent; page = e .page; zeros = e .zeros; permissions = e .permissions; locked = e .locked; lockable = e .lockable; cow = e .cow; tag = e .tag; nonce = e .nonce }
 
 -- the entry with another lock
 abbrev pub relocked : Entry → Bool → ℕ → Entry
-relocked e l h = record { kind = e .kind; base = e .base; length = e .length; count = e .count; holder = h; user = e .user; parent = e .parent; zeros = e .zeros; permissions = e .permissions; locked = l; lockable = e .lockable; cow = e .cow; tag = e .tag; nonce = e .nonce }
+relocked e l h = record { kind = e .kind; base = e .base; length = e .length; count = e .count; holder = h; user = e .user; parent = e .parent; page = e .page; zeros = e .zeros; permissions = e .permissions; locked = l; lockable = e .lockable; cow = e .cow; tag = e .tag; nonce = e .nonce }
 
 -- the entry with another nonce
 abbrev pub dated : Entry → ℕ → Entry
-dated e ν = record { kind = e .kind; base = e .base; length = e .length; count = e .count; holder = e .holder; user = e .user; parent = e .parent; zeros = e .zeros; permissions = e .permissions; locked = e .locked; lockable = e .lockable; cow = e .cow; tag = e .tag; nonce = ν }
+dated e ν = record { kind = e .kind; base = e .base; length = e .length; count = e .count; holder = e .holder; user = e .user; parent = e .parent; page = e .page; zeros = e .zeros; permissions = e .permissions; locked = e .locked; lockable = e .lockable; cow = e .cow; tag = e .tag; nonce = ν }
 
 -- the entry can be packed with nothing lost: its fields fit, and those that its type does not have are zero
 pub data Storable (e : Entry) : Type 0 where
   isFree : {g : ℕ} → g < 2 ^ 16 → e ≡ freed g → Storable e
-  isDirect : e .kind ≡ 1 → e .parent ≡ 0 → e .zeros ≡ 0 → Fit directWidths (directFields e) → Storable e
-  isIndirect : e .kind ≡ 2 → e .holder ≡ 0 → e .user ≡ 0 → Fit indirectWidths (indirectFields e) → Storable e
+  isDirect : e .kind ≡ 1 → e .parent ≡ 0 → e .page ≡ 0 → e .zeros ≡ 0 → Fit directWidths (directFields e) → Storable e
+  isIndirect : e .kind ≡ 2 → e .holder ≡ 0 → e .user ≡ 0 → e .page ≡ 0 → Fit indirectWidths (indirectFields e) → Storable e
+  isPaged : e .kind ≡ 3 → e .base ≡ 0 → e .count ≡ 0 → e .holder ≡ 0 → e .parent ≡ 0 → Fit pagedWidths (pagedFields e) → Storable e
 
--- a type with a layout of its own: direct, or indirect
+-- a type with a layout of its own: direct, indirect, or paged out
 pub data Laid (kind : ℕ) : Type 0 where
   laidDirect : kind ≡ 1 → Laid kind
   laidIndirect : kind ≡ 2 → Laid kind
+  laidPaged : kind ≡ 3 → Laid kind
 
 -- ---- in code
+
+-- how wide the field of zeros is, by the type
+abbrev pub zerosWidth : (kind : ℕ) → ℕ
+zerosWidth k = cond (eqb k 3) 39 55
 
 -- each field whose number in code has more bits than the field fits it
 pub record Fits (e : Entry) : Type 0 where
   pub permissions : e .permissions < 8
   pub holder : e .holder < 2 ^ 55
-  pub zeros : e .zeros < 2 ^ 55
+  pub zeros : e .zeros < 2 ^ zerosWidth (e .kind)
 
 -- an entry as four words, the high word first
 abbrev pub wordWidths : List ℕ
@@ -228,9 +293,9 @@ wordList w = w .a ∷ w .b ∷ w .c ∷ w .d ∷ []
 unfoldable pub wordsNumber : Words → ℕ
 wordsNumber w = pack wordWidths (wordList w)
 
--- an entry of one of the three types, whose fields fit, can be written to a part of 32 bytes, and to no other
+-- an entry of one of the four types, whose fields fit, can be written to a part of 32 bytes, and to no other
 abbrev pub packable : Entry → Bool
-packable e = ltb (e .kind) 3 && ltb (e .permissions) 8 && ltb (e .holder) (2 ^ 55) && ltb (e .zeros) (2 ^ 55)
+packable e = ltb (e .kind) 4 && ltb (e .permissions) 8 && ltb (e .holder) (2 ^ 55) && ltb (e .zeros) (2 ^ zerosWidth (e .kind))
 
 abbrev pub writable : List ℕ → Entry → Bool
 writable s e = eqb (length s) 32 && packable e

@@ -20,6 +20,7 @@ retag e g = record {
   holder = e .holder;
   user = e .user;
   parent = e .parent;
+  page = e .page;
   zeros = e .zeros;
   permissions = e .permissions;
   locked = e .locked;

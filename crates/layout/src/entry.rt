@@ -7,11 +7,11 @@ ghost use Prim.Native.Nat.{_<_, _^_, _/_, _%_};
 ghost use lib.ListN.{length};
 ghost use Rattle.bits.specs.Fields.{pack, unpack};
 ghost use Rattle.bits.specs.Bytes.{bytes, number};
-ghost use Rattle.layout.specs.Entry.{bit, direct, directNumber, directOf, endFields, endFrom, endWidths, entryAt, entryBytes, entryNumber, entryOf, Fits, free, freed, indirect, indirectNumber, indirectOf, packable, recounted, relocked, wordsNumber, writable, written};
+ghost use Rattle.layout.specs.Entry.{bit, direct, directNumber, directOf, endFields, endFrom, endWidths, entryAt, entryBytes, entryNumber, entryOf, Fits, free, freed, indirect, indirectNumber, indirectOf, packable, paged, pagedNumber, pagedOf, recounted, relocked, wordsNumber, writable, written, zerosWidth};
 
 // An entry: every field of every type. A field that its type does not have is zero.
 pub struct Entry {
-    // The type: 0 free, 1 direct, 2 indirect.
+    // The type: 0 free, 1 direct, 2 indirect, 3 paged out.
     pub kind: u8,
     pub base: u32,
     pub length: u32,
@@ -22,7 +22,9 @@ pub struct Entry {
     pub user: u64,
     // The parent token of an indirect entry, in encoding 1.
     pub parent: u64,
-    // The 55 bits that an indirect entry has as zeros, as they stand.
+    // The page-file number of an entry that is paged out.
+    pub page: u64,
+    // The bits that an indirect entry, or one that is paged out, has as zeros, as they stand.
     pub zeros: u64,
     // R 4, W 2, X 1, added.
     pub permissions: u8,
@@ -91,12 +93,13 @@ fn last_word(above: u64, e: Entry) -> u64
 }
 
 // The words of an entry, one by one: a field that runs over a word's end is cut in two.
-// The first has the type, the base and the high 29 bits of a field.
-fn first_word(kind: u64, base: u32, high: u64) -> u64
-    requires { ⌜ (kind < 8) × (high < 2 ^ 29) ⌝ }
-    ensures { λ r. ⌜ r ≡ pack (3 ∷ 32 ∷ 29 ∷ []) (kind ∷ base ∷ high ∷ []) ⌝ }
+// Three bits, a field of 32 and the high 29 bits of a field: the first word, with the type and the
+// base, or the second of an entry that is paged out, with the length.
+fn field_word(above: u64, field: u32, high: u64) -> u64
+    requires { ⌜ (above < 8) × (high < 2 ^ 29) ⌝ }
+    ensures { λ r. ⌜ r ≡ pack (3 ∷ 32 ∷ 29 ∷ []) (above ∷ field ∷ high ∷ []) ⌝ }
 {
-    (kind << 61) + ((base as u64) << 29) + high
+    (above << 61) + ((field as u64) << 29) + high
 }
 
 // The low three bits of the length, the count and the high bits of a field of 55.
@@ -107,11 +110,11 @@ fn middle_word(length: u32, count: u16, field: u64) -> u64
     ((length as u64) % 8 << 61) + ((count as u64) << 45) + field / 1024
 }
 
-// The low bits of the lock holder and the high bits of the user.
-fn direct_c(holder: u64, user: u64) -> u64
-    ensures { λ r. ⌜ r ≡ pack (10 ∷ 54 ∷ []) (holder % 1024 ∷ user / 1024 ∷ []) ⌝ }
+// The low ten bits of a field and the high bits of the user.
+fn user_word(above: u64, user: u64) -> u64
+    ensures { λ r. ⌜ r ≡ pack (10 ∷ 54 ∷ []) (above % 1024 ∷ user / 1024 ∷ []) ⌝ }
 {
-    (holder % 1024 << 54) + user / 1024
+    (above % 1024 << 54) + user / 1024
 }
 
 fn direct_words(e: Entry) -> Words
@@ -119,9 +122,9 @@ fn direct_words(e: Entry) -> Words
     ensures { λ r. ⌜ wordsNumber r ≡ directNumber e ⌝ }
 {
     Words {
-        a: first_word(1, e.base, (e.length as u64) / 8),
+        a: field_word(1, e.base, (e.length as u64) / 8),
         b: middle_word(e.length, e.count, e.holder),
-        c: direct_c(e.holder, e.user),
+        c: user_word(e.holder, e.user),
         d: last_word(e.user, e),
     }
 }
@@ -138,10 +141,29 @@ fn indirect_words(e: Entry) -> Words
     ensures { λ r. ⌜ wordsNumber r ≡ indirectNumber e ⌝ }
 {
     Words {
-        a: first_word(2, e.base, e.parent >> 35),
+        a: field_word(2, e.base, e.parent >> 35),
         b: indirect_b(e.parent, e.length),
         c: middle_word(e.length, e.count, e.zeros),
         d: last_word(e.zeros, e),
+    }
+}
+
+// The type and the high bits of the page-file number.
+fn paged_a(page: u64) -> u64
+    ensures { λ r. ⌜ r ≡ pack (3 ∷ 61 ∷ []) (3 ∷ page / 8 ∷ []) ⌝ }
+{
+    (3 << 61) + page / 8
+}
+
+fn paged_words(e: Entry) -> Words
+    requires { ⌜ (e .permissions < 8) × (e .zeros < 2 ^ 39) ⌝ }
+    ensures { λ r. ⌜ wordsNumber r ≡ pagedNumber e ⌝ }
+{
+    Words {
+        a: paged_a(e.page),
+        b: field_word(e.page % 8, e.length, e.zeros / 1024),
+        c: user_word(e.zeros, e.user),
+        d: last_word(e.user, e),
     }
 }
 
@@ -157,7 +179,7 @@ pub fn free_words(tag: u16) -> Words
     }
 }
 
-// The words of an entry. A type above 2 has no layout here and gives those of a free entry.
+// The words of an entry. A type above 3 has no layout here and gives those of a free entry.
 fn words_of(e: Entry) -> Words
     requires { ⌜ Fits e ⌝ }
     ensures { λ r. ⌜ wordsNumber r ≡ entryNumber e ⌝ }
@@ -166,6 +188,7 @@ fn words_of(e: Entry) -> Words
     match kind {
         1 => direct_words(e),
         2 => indirect_words(e),
+        3 => paged_words(e),
         _ => free_words(e.tag),
     }
 }
@@ -182,6 +205,7 @@ fn end_of(kind: u8, d: u64) -> Entry
         holder: 0,
         user: 0,
         parent: 0,
+        page: 0,
         zeros: 0,
         permissions: ((d >> 51) % 8) as u8,
         locked: (d >> 50) % 2 == 1,
@@ -226,6 +250,22 @@ fn indirect_of(w: Words) -> Entry
     e
 }
 
+// The entry that is paged out that four words hold.
+fn paged_of(w: Words) -> Entry
+    ensures { λ r. ⌜ r ≡ pagedOf (wordsNumber w) ⌝ }
+{
+    let a = w.a;
+    let b = w.b;
+    let c = w.c;
+    let d = w.d;
+    let mut e = end_of(3, d);
+    e.page = a % (1 << 61) * 8 + (b >> 61);
+    e.length = ((b >> 29) % (1 << 32)) as u32;
+    e.zeros = b % (1 << 29) * 1024 + (c >> 54);
+    e.user = c % (1 << 54) * 1024 + (d >> 54);
+    e
+}
+
 // The entry that four words hold.
 fn entry_of(w: Words) -> Entry
     ensures { λ r. ⌜ r ≡ entryOf (wordsNumber w) ⌝ }
@@ -234,6 +274,7 @@ fn entry_of(w: Words) -> Entry
     match kind {
         1 => direct_of(w),
         2 => indirect_of(w),
+        3 => paged_of(w),
         _ => end_of(kind as u8, w.d),
     }
 }
@@ -283,7 +324,8 @@ fn with_count(word: u64, count: u16) -> u64
     ((word >> 61) << 61) + ((count as u64) << 45) + word % (1 << 45)
 }
 
-// The words of the same entry with another count. Only types 1 and 2 have one.
+// The words of the same entry with another count. Only types 1 and 2 have one: an entry that is paged
+// out stays as it is.
 pub fn recounted(w: Words, count: u16) -> Words
     ensures { λ r. ⌜ wordsNumber r ≡ entryNumber (recounted (entryOf (wordsNumber w)) count) ⌝ }
 {
@@ -301,6 +343,7 @@ pub fn recounted(w: Words, count: u16) -> Words
             c: with_count(w.c, count),
             d: w.d,
         },
+        3 => w,
         _ => free_words(tag_of(w)),
     }
 }
@@ -330,10 +373,16 @@ pub fn relocked(w: Words, locked: bool, holder: u64) -> Words
         1 => Words {
             a: w.a,
             b: with_holder(w.b, holder),
-            c: direct_c(holder, w.c % (1 << 54) * 1024),
+            c: user_word(holder, w.c % (1 << 54) * 1024),
             d: with_locked(w.d, locked),
         },
         2 => Words {
+            a: w.a,
+            b: w.b,
+            c: w.c,
+            d: with_locked(w.d, locked),
+        },
+        3 => Words {
             a: w.a,
             b: w.b,
             c: w.c,
@@ -360,10 +409,17 @@ fn store(part: &mut [u8], e: Entry)
     write_words(part, words_of(e));
 }
 
+// What the field of zeros stays below.
+fn zeros_end(kind: u8) -> u64
+    ensures { λ r. ⌜ r ≡ 2 ^ zerosWidth kind ⌝ }
+{
+    if kind == 3 { 1 << 39 } else { 1 << 55 }
+}
+
 fn packable(e: Entry) -> bool
     ensures { λ r. ⌜ r ≡ packable e ⌝ }
 {
-    (e.kind < 3) & (e.permissions < 8) & (e.holder < 1 << 55) & (e.zeros < 1 << 55)
+    (e.kind < 4) & (e.permissions < 8) & (e.holder < 1 << 55) & (e.zeros < zeros_end(e.kind))
 }
 
 // The entry is written to a part of 32 bytes if its type has a layout and its fields fit; else
@@ -431,6 +487,30 @@ fn indirect(base: u32, length: u32, parent: u64, permissions: u8, tag: u16, nonc
     e
 }
 
+// An entry that is paged out, as it is issued: unlocked.
+fn paged(
+    page: u64,
+    length: u32,
+    user: u64,
+    permissions: u8,
+    lockable: bool,
+    tag: u16,
+    nonce: u32,
+) -> Entry
+    ensures { λ r. ⌜ r ≡ paged page length user permissions lockable tag nonce ⌝ }
+{
+    let mut e = free();
+    e.kind = 3;
+    e.page = page;
+    e.length = length;
+    e.user = user;
+    e.permissions = permissions;
+    e.lockable = lockable;
+    e.tag = tag;
+    e.nonce = nonce;
+    e
+}
+
 // The words of a direct entry as it is issued, with tag and nonce 0: from here on an issue handles
 // four words, and no entry with all its fields.
 pub fn issued_direct(base: u32, length: u32, user: u64, permissions: u8, lockable: bool) -> Words
@@ -446,4 +526,12 @@ pub fn issued_indirect(base: u32, length: u32, parent: u64, permissions: u8) -> 
     ensures { λ r. ⌜ entryOf (wordsNumber r) ≡ indirect base length parent permissions 0 0 ⌝ }
 {
     indirect_words(indirect(base, length, parent, permissions, 0, 0))
+}
+
+// And of one that is paged out.
+pub fn issued_paged(page: u64, length: u32, user: u64, permissions: u8, lockable: bool) -> Words
+    requires { ⌜ permissions < 8 ⌝ }
+    ensures { λ r. ⌜ entryOf (wordsNumber r) ≡ paged page length user permissions lockable 0 0 ⌝ }
+{
+    paged_words(paged(page, length, user, permissions, lockable, 0, 0))
 }

@@ -13,11 +13,11 @@ use borrow.Author.Tests.{eqb-false, eqb-true, ltb-false, ltb-true, not-true}
 use Rattle.layout.specs.Entry.{Storable}
 use Rattle.layout.specs.Form.{endPastMemory, faultsOf, illFormed, lengthZero, orSome}
 use Rattle.layout.specs.declared.entry.Entry.{Entry}
-use Rattle.layout.specs.Entry.{Laid, laidDirect, laidIndirect}
+use Rattle.layout.specs.Entry.{Laid, laidDirect, laidIndirect, laidPaged}
 use Rattle.layout.proofs.FormLaws.{ill-as, laid}
 use Rattle.bits.proofs.TestLaws.{both}
 use Rattle.machine.specs.Demand3.{above, itself, Owns}
-use Rattle.machine.specs.Line.{links, parentNumber, parentTag}
+use Rattle.machine.specs.Line.{isPaged, links, parentNumber, parentTag}
 use Rattle.machine.specs.Parts.{at, put, size}
 use Rattle.machine.proofs.TableLaws.{at-other, at-same, size-put}
 
@@ -53,22 +53,35 @@ put2-all P t p n a b fa fb hp hn pn pp f =
 
 -- ---- links and owners
 
+-- the entry is neither free nor paged out, so that it has a segment in memory
+pub record Present (e : Entry) : Type 0 where
+  pub full : e .kind ≢ 0
+  pub here : e .kind ≢ 3
+
+pub present : (e : Entry) → not (eqb (e .kind) 0) ≡ true → not (isPaged e) ≡ true → Present e
+present e h i = record { full = neqb-true (e .kind) 0 h; here = neqb-true (e .kind) 3 i }
+
+pub direct-present : (e : Entry) → e .kind ≡ 1 → Present e
+direct-present e d = record { full = omega arith; here = omega arith }
+
 -- what a link that holds says of the parent p of e
 pub record Link (e p : Entry) : Type 0 where
-  pub full : p .kind ≢ 0
+  pub present : Present p
   pub tagged : p .tag ≡ parentTag e
   pub older : p .nonce < e .nonce
 
 pub link : (e p : Entry) → links p e ≡ true → Link e p
 link e p h =
     let full : Bool = not (eqb (p .kind) 0) in
+    let here : Bool = not (isPaged p) in
     let tagged : Bool = eqb (p .tag) (parentTag e) in
     let older : Bool = ltb (p .nonce) (e .nonce) in
-    let all = both (full && tagged) older h in
-    let two = both full tagged (all .0) in
+    let all = both (full && here && tagged) older h in
+    let three = both (full && here) tagged (all .0) in
+    let two = both full here (three .0) in
     record {
-      full = neqb-true (p .kind) 0 (two .0);
-      tagged = eqb-true (p .tag) (parentTag e) (two .1);
+      present = present p (two .0) (two .1);
+      tagged = eqb-true (p .tag) (parentTag e) (three .1);
       older = ltb-true (p .nonce) (e .nonce) (all .1);
     }
 
@@ -88,9 +101,9 @@ owner-unique (above l o) (above l′ o′) = owner-unique o o′
 
 -- ---- well-formed entries
 
--- the segment of one that is not free is not empty and lies in memory
-pub range : (m : ℕ) (e : Entry) → e .kind ≢ 0 → illFormed m e ≡ false → (0 < e .length) × (e .base + e .length ≤ m)
-range m e k f = go (laid m e k f)
+-- the segment of one that has one is not empty and lies in memory
+pub range : (m : ℕ) (e : Entry) → Present e → illFormed m e ≡ false → (0 < e .length) × (e .base + e .length ≤ m)
+range m e k f = go (laid m e (k .full) f)
   where
     fault : (bs : List Bool) → orSome false (lengthZero e ∷ endPastMemory m e ∷ bs) ≡ false → (0 < e .length) × (e .base + e .length ≤ m)
     fault bs h =
@@ -101,3 +114,10 @@ range m e k f = go (laid m e k f)
     go : Laid (e .kind) → (0 < e .length) × (e .base + e .length ≤ m)
     go (laidDirect i) = fault (drop 2 (faultsOf 1 m e)) (sym (ill-as m e i) ∙ f)
     go (laidIndirect i) = fault (drop 2 (faultsOf 2 m e)) (sym (ill-as m e i) ∙ f)
+    go (laidPaged i) = absurd (k .here i)
+
+-- and one that is paged out is not empty
+pub paged-long : (m : ℕ) (e : Entry) → e .kind ≡ 3 → illFormed m e ≡ false → 0 < e .length
+paged-long m e k f =
+    let some = eqb-false (e .length) 0 (some-false (lengthZero e) (drop 1 (faultsOf 3 m e)) (sym (ill-as m e k) ∙ f)) in
+    omega arith

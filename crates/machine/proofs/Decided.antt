@@ -1,8 +1,9 @@
 -- A request is granted, with all its checks passed, or refused, with one of 01's numbers.
 -- Assumes nothing.
-use mathlib.Core.Path.{_≡_, refl, ap}
+use mathlib.Core.Path.{_≡_, refl, ap, _∙_}
+use mathlib.Core.Logic.{_⊎_, inl, inr}
 use mathlib.Core.Bool.{Bool, true, false, cond}
-use mathlib.Core.List.{List, [], _∷_, _++_}
+use mathlib.Core.List.{List, [], _∷_, _++_, append-assoc}
 use Prim.Native.Nat.{ℕ, _≤_}
 use native.Mathlib.Omega.{arith}
 use lib.ListN.{length}
@@ -14,12 +15,12 @@ use Rattle.machine.specs.Parts.{spent, State}
 use Rattle.machine.specs.Refusals.{Told}
 use Rattle.machine.specs.Requests.{Call, Request}
 use Rattle.machine.specs.Steps.{answer, decide, decision, Machine, pass, refused, settle, stop, Verdict, verdict}
-use Rattle.machine.specs.Stops.{atBounds, atChecksum, atEntry, atForm, atKind, atLease, atLine, atLock, atNonces, atNumbers, atRecord, atRequest, atRight, atRoom, atStanding, atWindow, Check, checks, needAll, noncesLeft, Places, places, Refusal, refusalBad, refusalNumber, sizes}
+use Rattle.machine.specs.Stops.{atBounds, atChecksum, atEntry, atForm, atKind, atLease, atLine, atLock, atNonces, atNumbers, atPaged, atRecord, atRequest, atRight, atRoom, atStanding, atWindow, Check, checks, needAll, noncesLeft, Places, places, Refusal, refusalBad, refusalNumber, sizes}
 use Rattle.machine.proofs.Choices.{by-cond}
 
 -- ---- what a refusal tells
 
-plain-told : (n : ℕ) → 1 ≤ n → n ≤ 16 → (3 ≤ n → n ≤ 4 → ⊥) → Told n 0
+plain-told : (n : ℕ) → 1 ≤ n → n ≤ 17 → (3 ≤ n → n ≤ 4 → ⊥) → Told n 0
 plain-told n a b h = record { least = a; most = b; line = λ i j. absurd (h i j); plain = λ i j. refl }
 
 line-told : (n k : ℕ) → 3 ≤ n → n ≤ 4 → 1 ≤ k → k ≤ 2 → Told n k
@@ -44,6 +45,7 @@ tells atChecksum = plain-told _ (omega arith) (omega arith) (λ a b. omega arith
 tells atRoom = plain-told _ (omega arith) (omega arith) (λ a b. omega arith)
 tells atWindow = plain-told _ (omega arith) (omega arith) (λ a b. omega arith)
 tells atLease = plain-told _ (omega arith) (omega arith) (λ a b. omega arith)
+tells atPaged = plain-told _ (omega arith) (omega arith) (λ a b. omega arith)
 
 -- ---- the verdict
 
@@ -146,6 +148,33 @@ by-decision P m s t q b f g = by-checks (λ (v : Verdict). P (settle v s t (gran
 pub granted-by : (σ : Machine) (q : Call) → Passed (checks (length (σ .memory)) (σ .state) (σ .table) (q .request) (q .buffer)) → Accepted σ q
 unfolding answer decide
 granted-by σ q h = rw (passing (checks (length (σ .memory)) (σ .state) (σ .table) (q .request) (q .buffer)) h)
+
+-- all checks but the last, place 11; one that passes these is accepted, or refused by 11
+abbrev pub judged : ℕ → State → List ℕ → Request → List ℕ → List Check
+judged m s t q b = let p = places m s t q b in needAll atRequest (sizes m t ++ p .request) ++ ((p .after ++ p .tokens) ++ p .rest)
+
+pub but-nonces : (σ : Machine) (q : Call) → Passed (judged (length (σ .memory)) (σ .state) (σ .table) (q .request) (q .buffer)) → Accepted σ q ⊎ (answer σ q .reply .refusal ≡ 11)
+unfolding answer decide
+but-nonces σ q h =
+    let whole : checks m (σ .state) (σ .table) (q .request) (q .buffer) ≡ cs ++ (nonces ∷ []) =
+    rw (append-assoc (needAll atRequest (sizes m (σ .table) ++ p .request)) ((p .after ++ p .tokens) ++ p .rest) (nonces ∷ []), append-assoc (p .after ++ p .tokens) (p .rest) (nonces ∷ [])) in
+    let last : verdict (checks m (σ .state) (σ .table) (q .request) (q .buffer)) ≡ verdict (nonces ∷ []) = ap verdict whole ∙ verdict-append cs (nonces ∷ []) ∙ rw (passing cs h) in
+    rw last (by-cond (λ (v : Verdict). (told v ≡ 0) ⊎ (told v ≡ 11)) (nonces .holds) (λ e. inl refl) (λ e. inr refl))
+  where
+    m : ℕ
+    m = length (σ .memory)
+
+    p : Places
+    p = places m (σ .state) (σ .table) (q .request) (q .buffer)
+
+    cs : List Check
+    cs = judged m (σ .state) (σ .table) (q .request) (q .buffer)
+
+    nonces : Check
+    nonces = noncesLeft (σ .state) (σ .table) (grant m (σ .table) (q .request) (q .buffer))
+
+    told : Verdict → ℕ
+    told v = settle v (σ .state) (σ .table) (grant m (σ .table) (q .request) (q .buffer)) .reply .refusal
 
 -- ---- a call
 

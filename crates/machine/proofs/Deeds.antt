@@ -12,7 +12,7 @@ use lib.Dec.{leb, ltb, eqb}
 use lib.ListN.{length, length-replicate}
 use borrow.Author.Tests.{eqb-false, eqb-true, leb-true, ltb-false, ltb-true, ne-eqb, not-true}
 use Rattle.hex.specs.Text.{farthest}
-use Rattle.layout.specs.Entry.{direct, directFields, directWidths, freed, recounted, Storable}
+use Rattle.layout.specs.Entry.{directFields, directWidths, recounted, Storable}
 use Rattle.bits.specs.Fields.{Fit}
 use Rattle.tokens.specs.Permissions.{within, X}
 use Rattle.tokens.specs.Token.{named}
@@ -22,23 +22,24 @@ use Rattle.machine.specs.FreeTotal.{vacant}
 use Rattle.machine.specs.FromReset.{Has, Inside, owned}
 use Rattle.machine.specs.Images.{piecesOf}
 use Rattle.machine.specs.Issuing.{issue, lastHeld, newNumber, otherNonce}
-use Rattle.machine.specs.Line.{dead, ill, isLocked, Line, linked, lineOf, lockedFrom, owner, ownerOf, parentNumber}
-use Rattle.machine.specs.Operations.{carried, childOf, climb, Effect, effecting, fresh, grant, grantCreate, grantDerive, grantDump, grantLoad, grantLock, grantMerge, grantRelease, grantRevoke, issuing, mergedOf, namedEntry, nothing, numberOf, partOf, Reply, restOf, store, transfer}
+use Rattle.machine.specs.Line.{isLocked, Line, linked, lineOf, lockedFrom, owner, ownerOf, parentNumber}
+use Rattle.machine.specs.Operations.{carried, childOf, climb, Effect, effecting, fresh, grant, grantCreate, grantDerive, grantDump, grantLoad, grantLock, grantMerge, grantPageIn, grantPageOut, grantRelease, grantRevoke, inOf, issuing, mergedOf, namedEntry, nothing, numberOf, outOf, partOf, Reply, restOf, transfer}
 use Rattle.machine.specs.Parts.{at, moved, put, size, spent, State}
-use Rattle.machine.specs.Requests.{access, clone, create, derive, dump, executeOnly, fetching, load, lock, merge, reading, release, Request, reset, revoke, Shift, taskOf, unlock, Way, writing}
+use Rattle.machine.specs.Requests.{access, clone, create, derive, dump, executeOnly, fetching, load, lock, merge, pageIn, pageOut, reading, release, Request, reset, revoke, Shift, taskOf, unlock, Way, writing}
 use Rattle.machine.specs.Stops.{checks}
 use Rattle.machine.specs.Writes.{Book, give, Name, nameOf, oneLess, opened, vacate, vacated, Write, write, written}
-use Rattle.machine.proofs.Basics.{neqb-true, owner-direct, parent, put-all, put2-all, range}
+use Rattle.machine.proofs.Basics.{direct-present, neqb-true, owner-direct, parent, present, Present, put-all, put2-all, range}
 use Rattle.machine.proofs.Choices.{by-cond}
 use Rattle.machine.proofs.Decided.{Passed, rest-passed}
 use Rattle.machine.proofs.Fates.{Anew, core, Deed, Fate, gone, Inv, issued, kept, Names, none, one, Shut, Source, spares, Touches, two}
-use Rattle.machine.proofs.Fuel.{Live, number-first, other-first, other-least, walk-owns}
+use Rattle.machine.proofs.Fuel.{Live, number-first, other-first, other-least, walk-owner, walk-owns}
+use Rattle.machine.proofs.PageWrites.{entryIn, entryNew, entryOut, in-touched, in-writes, Inward, nonceIn, nonceNew, numberNew, out-touched, out-writes, Outward, stateOut}
 use Rattle.machine.proofs.PlaceLaws.{placed-touches}
 use Rattle.machine.proofs.Sums.{owned-direct, owned-other, sum-put2, sum-same}
-use Rattle.machine.proofs.TableLaws.{at-other, at-same, freed-storable, held-small, in-table, put-out, size-put}
+use Rattle.machine.proofs.TableLaws.{at-other, at-same, freed-storable, held-small, in-table, size-put}
 use Rattle.machine.proofs.Tallies.{Tally, tally-free, tally-give, tally-keep, tally-same, tally-then}
 use Rattle.machine.proofs.WriteLaws.{Calm, calm-still, release-calm}
-use Rattle.machine.proofs.Written.{direct-fit, fitting, free-good, Good, issue-direct, issue-indirect, parent-named, recount-good, relock-good}
+use Rattle.machine.proofs.Written.{direct-fit, direct-good, fitting, free-good, Good, issue-direct, issue-indirect, paged-good, parent-named, recount-good, relock-good}
 
 -- nobody's bytes go to another owner
 abbrev stay : ℕ → ℕ → ℕ
@@ -62,10 +63,10 @@ owner-range m s t inv x (above {n = n} l o) h =
     owner-range m s t inv x o (omega arith)
 
 -- the owner of a line that is open to u is not locked for another task than u
-owner-open : (t : List ℕ) (l : Line) (u : ℕ) → Live l → not (lockedFrom t u l) ≡ true → Shut u (at t (ownerOf l)) → ⊥
-owner-open t (owner k) u v o h = false≢true (rw (h .locked, ne-eqb (at t k .holder) u (h .other)) at o)
-owner-open t (dead k) u v o h = false≢true (v .1)
-owner-open t (ill k) u v o h = false≢true (v .0)
+owner-open : (t : List ℕ) (l : Line) (u : ℕ) → l ≡ owner (ownerOf l) → not (lockedFrom t u l) ≡ true → Shut u (at t (ownerOf l)) → ⊥
+owner-open t l u e o h =
+    let k : ℕ = ownerOf l in
+    false≢true (rw (h .locked, ne-eqb (at t k .holder) u (h .other)) at (subst (λ (x : Line). not (lockedFrom t u x) ≡ true) e o))
 
 -- what one store touches, whatever its bytes, and a transfer
 once-stored : {P : Type 0} → (P ⊎ ⊥) ⊎ ⊥ → P
@@ -80,8 +81,11 @@ module _ (m : ℕ) (s : State) (t : List ℕ) (inv : Inv m s t) where
   unmoved : (q : Request) (μ ν : ℕ) (ks : List Name) (n : ℕ) → Fate t q μ ν ks stay n (at t n)
   unmoved q μ ν ks n = kept refl (λ x h. refl) (λ h. (refl, refl))
 
-  owns : (n : ℕ) → not (eqb (at t n .kind) 0) ≡ true → Live (lineOf m t n) → Owns t n (ownerOf (lineOf m t n))
-  owns n k v = walk-owns (suc (at t n .nonce)) m t n (neqb-true (at t n .kind) 0 k) v
+  owns : (n : ℕ) → Present (at t n) → Live (lineOf m t n) → Owns t n (ownerOf (lineOf m t n))
+  owns n k v = walk-owns (suc (at t n .nonce)) m t n k v
+
+  ends : (n : ℕ) → Present (at t n) → Live (lineOf m t n) → lineOf m t n ≡ owner (ownerOf (lineOf m t n))
+  ends n k v = walk-owner (suc (at t n .nonce)) m t n k v
 
   -- no entry is written
   pub deed-none : (q : Request) {s′ : State} {r : Reply} {f : Effect} → s .next ≤ s′ .next → s′ .total ≡ s .total
@@ -91,23 +95,23 @@ module _ (m : ℕ) (s : State) (t : List ℕ) (inv : Inv m s t) where
       record { up = up; least = s .next; above = omega arith; moves = stay; fate = unmoved q (s .next) (s′ .next) []; names = none; carried = λ n x h. h; spared = sp; good = inv .good; long = refl; sum = refl; tally = tally-same t t refl same }
 
   -- a byte of an entry whose line is open to u is no byte of an entry that is locked for another task
-  owner-shut : (k u : ℕ) → not (eqb (namedEntry t k .kind) 0) ≡ true → Live (lineOf m t (numberOf k)) → not (lockedFrom t u (lineOf m t (numberOf k))) ≡ true
+  owner-shut : (k u : ℕ) → Present (namedEntry t k) → Live (lineOf m t (numberOf k)) → not (lockedFrom t u (lineOf m t (numberOf k))) ≡ true
       → (x : ℕ) → In (namedEntry t k) x → (i : ℕ) → Shut u (at t i) → In (at t i) x → ⊥
   owner-shut k u full live op x here i sh ins =
       let l : Line = lineOf m t (numberOf k) in
       let o : Owns t (numberOf k) (ownerOf l) = owns (numberOf k) full live in
       let e : ownerOf l ≡ i = inv .tiled (ownerOf l) i x (record { direct = owner-direct o; inside = owner-range m s t inv x o here }) (record { direct = sh .direct; inside = ins }) in
-      owner-open t l u live op (rw e sh)
+      owner-open t l u (ends (numberOf k) full live) op (rw e sh)
 
   deed-access : (w : Way) (k u : ℕ) (φ : Shift) (b : List ℕ) → Passed (checks m s t (access w k u φ) b) → Deed m s t (access w k u φ) (carried s t (grant m t (access w k u φ) b))
   deed-access w k u φ b h =
       deed-none (access w k u φ) (omega arith) refl
       (λ i x sh nr tc ins.
       let tc′ = touched w _ b x tc in
-      owner-shut k u (search) (search, search) (search) x (omega (arith, leb-true (named k .offset + length b) (namedEntry t k .length) (search))) i sh ins)
+      owner-shut k u (present (namedEntry t k) (search) (search)) (search, search) (search) x (omega (arith, leb-true (named k .offset + length b) (namedEntry t k .length) (search))) i sh ins)
 
   -- a load or a dump touches bytes of the named entry alone
-  deed-image : (q : Request) (k : ℕ) (n : ℕ) (f : Effect) → not (eqb (namedEntry t k .kind) 0) ≡ true → Live (lineOf m t (numberOf k)) → not (lockedFrom t (taskOf q) (lineOf m t (numberOf k))) ≡ true
+  deed-image : (q : Request) (k : ℕ) (n : ℕ) (f : Effect) → Present (namedEntry t k) → Live (lineOf m t (numberOf k)) → not (lockedFrom t (taskOf q) (lineOf m t (numberOf k))) ≡ true
       → ((x : ℕ) → Touches f x → In (namedEntry t k) x) → Deed m s t q (carried s t (effecting n f))
   deed-image q k n f full live op touches =
       deed-none q (omega arith) refl
@@ -150,13 +154,14 @@ module _ (m : ℕ) (s : State) (t : List ℕ) (inv : Inv m s t) where
     first : p ≡ k → Holds a x → Lands p n a b k x
     second : n ≡ k → Holds b x → Lands p n a b k x
 
-  deed-put2 : (q : Request) {p n : ℕ} {a b : Entry} {s′ : State} {r : Reply} {ks : List Name} (μ : ℕ) (g : ℕ → ℕ → ℕ) → s .next ≤ μ → s .next ≤ s′ .next → Good m a → Good m b → p < size t → n < size t → p ≢ n
+  deed-put2 : (q : Request) {p n : ℕ} {a b : Entry} {s′ : State} {r : Reply} {ks : List Name} {f : Effect} (μ : ℕ) (g : ℕ → ℕ → ℕ) → s .next ≤ μ → s .next ≤ s′ .next → Good m a → Good m b → p < size t → n < size t → p ≢ n
       → owned a + owned b ≡ owned (at t p) + owned (at t n)
       → Tally t (s .total) (put (put t p a) n b) (s′ .total)
       → Fate t q μ (s′ .next) ks g n b → Fate t q μ (s′ .next) ks g p a → Names t (put (put t p a) n b) ks → ((i : ℕ) → i ≢ n → i ≢ p → (x : ℕ) → i ≡ g i x)
       → ((x : ℕ) → Has t n x → Lands p n a b (g n x) x) → ((x : ℕ) → Has t p x → Lands p n a b (g p x) x)
-      → Deed m s t q (record { state = s′; table = put (put t p a) n b; reply = r; issued = ks; effect = nothing })
-  deed-put2 q {p} {n} {a} {b} {s′} {r} {ks} μ g low up ga gb hp hn d sum count nb pa names others cn cp =
+      → ((i x : ℕ) → Shut (taskOf q) (at t i) → Touches f x → In (at t i) x → ⊥)
+      → Deed m s t q (record { state = s′; table = put (put t p a) n b; reply = r; issued = ks; effect = f })
+  deed-put2 q {p} {n} {a} {b} {s′} {r} {ks} {f} μ g low up ga gb hp hn d sum count nb pa names others cn cp sp =
       record {
         up = up;
         least = μ;
@@ -165,7 +170,7 @@ module _ (m : ℕ) (s : State) (t : List ℕ) (inv : Inv m s t) where
         moves = g;
         fate = each (λ i y. Fate t q μ (s′ .next) ks g i y) nb pa (λ i j k. kept refl (λ x h. others i j k x) (λ h. (refl, refl)));
         carried = λ i x h. moved-to i x h (ℕ-discrete i n) (ℕ-discrete i p);
-        spared = λ i x sh nr tc ins. spares x tc;
+        spared = λ i x sh nr tc ins. sp i x sh tc ins;
         good = each (λ i y. Good m y) gb ga (λ i j k. inv .good i);
         long = size-put (put t p a) n b ∙ size-put t p a;
         sum = omega (arith, sum-put2 (λ n e. owned e) t p n a b (ga .storable) (gb .storable) hp hn d, sum);
@@ -221,19 +226,20 @@ module _ (m : ℕ) (s : State) (t : List ℕ) (inv : Inv m s t) where
   beside f e n k = rw (at-other t (newNumber s t) n e (λ i. apart k (number-first s t f .free) (sym i))) k
 
   -- derive and execute-only: a child in the segment of n
-  deed-derive : (q : Request) (n o l p c : ℕ) → at t n .kind ≢ 0 → newNumber s t ≢ 0 → 0 < l → o + l ≤ at t n .length → p < 8 → within p (at t n .permissions) ≡ true → at t n .count < 65535 → otherNonce s t (newNumber s t) (childOf n (at t n) o l p) + 1 ≤ spent
+  deed-derive : (q : Request) (n o l p c : ℕ) → Present (at t n) → newNumber s t ≢ 0 → 0 < l → o + l ≤ at t n .length → p < 8 → within p (at t n .permissions) ≡ true → at t n .count < 65535 → otherNonce s t (newNumber s t) (childOf n (at t n) o l p) + 1 ≤ spent
       → Deed m s t q (carried s t (grantDerive t n o l p c))
-  deed-derive q n o l p c k f pos b hp hr hc hn =
+  deed-derive q n o l p c stands f pos b hp hr hc hn =
+      let k : at t n .kind ≢ 0 = stands .full in
       let child : ℕ → Entry = childOf n (at t n) o l p in
       let ν : ℕ = otherNonce s t (newNumber s t) child in
       let least = other-least s t (newNumber s t) child in
       let in-n : n < size t = in-table t n k in
       let most : size t ≤ 1024 = inv .most in
       let low : n < 1024 = omega arith in
-      let whole = range m (at t n) k (inv .good n .formed) in
+      let whole = range m (at t n) stands (inv .good n .formed) in
       let named-n : parentNumber (childOf n (at t n) o l p ν) ≡ n = parent-named m n (at t n) (inv .good n) low in
       let child-good : Good m (issue s (newNumber s t) (childOf n (at t n) o l p ν)) = issue-indirect m s (newNumber s t) n (inv .small) (inv .good n) low pos (omega arith) hp (omega arith) in
-      let parent-good : Good m (recounted (at t n) (at t n .count + 1)) = recount-good m (inv .good n) k (omega arith) (λ i. omega arith) in
+      let parent-good : Good m (recounted (at t n) (at t n .count + 1)) = recount-good m (inv .good n) stands (omega arith) (λ i. omega arith) in
       deed-put2 q ν stay
       least
       (omega (arith, least))
@@ -251,6 +257,7 @@ module _ (m : ℕ) (s : State) (t : List ℕ) (inv : Inv m s t) where
       (λ i j v x. refl)
       (λ x h. second refl (has h))
       (λ x h. absurd (omega (arith, h .direct, number-first s t f .free)))
+      (λ i x sh tc ins. spares x tc)
 
   -- create: the bytes of n before y go to p
   abbrev split : (n p y : ℕ) → ℕ → ℕ → ℕ
@@ -288,7 +295,8 @@ module _ (m : ℕ) (s : State) (t : List ℕ) (inv : Inv m s t) where
       (one (anew-first _ good (omega arith) inside away (new-tag new (partOf (at t n) l u p) (omega arith))))
       (λ i j v x. split-other n new y i x j)
       (λ x h. first (split-front n new y x (omega (arith, h .inside))) (refl, omega (arith, h .inside)))
-      (λ x h. absurd (omega (arith, h .direct, number-first s t f .free))))
+      (λ x h. absurd (omega (arith, h .direct, number-first s t f .free)))
+      (λ i x sh tc ins. spares x tc))
       (λ e v.
       let less : l ≢ at t n .length = eqb-false l (at t n .length) e in
       let good : Good m a = a-good (omega (arith, least₂)) in
@@ -307,7 +315,8 @@ module _ (m : ℕ) (s : State) (t : List ℕ) (inv : Inv m s t) where
       (two (anew-first _ good (omega arith) inside away (new-tag new (partOf (at t n) l u p) (omega (arith, least₂)))) (anew-second new a rest-good (omega arith) in-n other) away)
       (λ i j v x. split-other n new y i x j)
       (λ x h. lands x h (decLt x y))
-      (λ x h. absurd (omega (arith, h .direct, number-first s t f .free))))
+      (λ x h. absurd (omega (arith, h .direct, number-first s t f .free)))
+      (λ i x sh tc ins. spares x tc))
       hn
     where
       new : ℕ
@@ -342,10 +351,10 @@ module _ (m : ℕ) (s : State) (t : List ℕ) (inv : Inv m s t) where
       least₂ = other-least s₁ (put t new a) n rest
 
       whole : (0 < at t n .length) × (at t n .base + at t n .length ≤ m)
-      whole = range m (at t n) (omega arith) (inv .good n .formed)
+      whole = range m (at t n) (direct-present (at t n) k) (inv .good n .formed)
 
       fit : Fit directWidths (directFields (at t n))
-      fit = direct-fit m (at t n) (inv .good n) k
+      fit = direct-fit (at t n) k (inv .good n .storable)
 
       in-n : n < size t
       in-n = in-table t n (omega arith)
@@ -376,6 +385,10 @@ module _ (m : ℕ) (s : State) (t : List ℕ) (inv : Inv m s t) where
       lands x h (yes i) = first (split-front n new y x i) (refl, omega (arith, h .inside))
       lands x h (no i) = second (split-back n new y x (omega arith)) (refl, omega (arith, h .inside))
 
+  -- an entry that is not locked is not locked for another task
+  not-shut : {e : Entry} {u : ℕ} → Shut u e → e .locked ≡ false → ⊥
+  not-shut h e = let one : _≡_ {A = ℕ} 0 1 = cc (h .locked) in omega arith
+
   -- merge: the bytes of k go to n
   abbrev fuse : (n k : ℕ) → ℕ → ℕ → ℕ
   fuse n k i x = cond (eqb i k) n i
@@ -392,9 +405,9 @@ module _ (m : ℕ) (s : State) (t : List ℕ) (inv : Inv m s t) where
   deed-merge : (q : Request) (n k c : ℕ) → at t n .kind ≡ 1 → at t k .kind ≡ 1 → at t n .locked ≡ false → at t k .locked ≡ false
       → at t k .base ≡ at t n .base + at t n .length → otherNonce s t n (mergedOf (at t n) (at t k)) + 1 ≤ spent → Deed m s t q (carried s t (grantMerge t n k c))
   deed-merge q n k c d d′ z z′ b hn =
-      let whole = range m (at t n) (omega arith) (inv .good n .formed) in
-      let whole′ = range m (at t k) (omega arith) (inv .good k .formed) in
-      let fit : Fit directWidths (directFields (at t n)) = direct-fit m (at t n) (inv .good n) d in
+      let whole = range m (at t n) (direct-present (at t n) d) (inv .good n .formed) in
+      let whole′ = range m (at t k) (direct-present (at t k) d′) (inv .good k .formed) in
+      let fit : Fit directWidths (directFields (at t n)) = direct-fit (at t n) d (inv .good n .storable) in
       let good : Good m a = issue-direct m s n (inv .small) (omega arith) (omega arith) (omega arith) (omega (arith, and-le-l (at t n .permissions) (at t k .permissions))) (omega arith) (inv .good n .lockable d) in
       let away : n ≢ k = λ e. let same : at t n .base ≡ at t k .base = ap (λ (x : ℕ). at t x .base) e in omega arith in
       let there : at (put t n a) k ≡ at t k = at-other t n k a (λ e. away (sym e)) in
@@ -407,22 +420,83 @@ module _ (m : ℕ) (s : State) (t : List ℕ) (inv : Inv m s t) where
       away
       (omega (arith, owned-direct (at t n) d, owned-direct (at t k) d′))
       (tally-then (tally-keep t n a (s .total) (good .storable) (omega arith) (omega arith)) (tally-free (put t n a) k (lastHeld (put t n a) k) _ (freed-storable (put t n a) k) full))
-      (gone refl (ap (λ (x : Entry). x .tag) there) (λ h. unlocked h z′))
-      (issued (omega (arith, least)) (omega arith) (List·Memᴰ·head refl) (λ h. absurd (omega arith)) (λ h x i. from x i (decLt x (at t k .base))) (λ h. absurd (unlocked h z)))
+      (gone refl (ap (λ (x : Entry). x .tag) there) (λ h. not-shut h z′))
+      (issued (omega (arith, least)) (omega arith) (List·Memᴰ·head refl) (λ h. absurd (omega arith)) (λ h x i. from x i (decLt x (at t k .base))) (λ h. absurd (not-shut h z)))
       (one (anew-first _ good (omega arith) (in-table t n (omega arith)) away (new-tag n (mergedOf (at t n) (at t k)) (omega arith))))
       (λ i j v x. fuse-other n k i x j)
       (λ x h. first (fuse-second n k x) (refl, omega (arith, h .inside)))
       (λ x h. first (fuse-first n k x) (refl, omega (arith, h .inside)))
+      (λ i x sh tc ins. spares x tc)
     where
       a : Entry
       a = issue s n (mergedOf (at t n) (at t k) (otherNonce s t n (mergedOf (at t n) (at t k))))
 
-      unlocked : {e : Entry} → Shut (taskOf q) e → e .locked ≡ false → ⊥
-      unlocked h e = let one : _≡_ {A = ℕ} 0 1 = cc (h .locked) in omega arith
-
       from : (x : ℕ) → In a x → Dec (x < at t k .base) → Source t (fuse n k) n x
       from x i (yes h) = record { from = n; has = record { direct = d; inside = omega arith }; to = fuse-first n k x }
       from x i (no h) = record { from = k; has = record { direct = d′; inside = omega arith }; to = fuse-second n k x }
+
+  -- ---- paging
+
+  -- the bytes of a direct entry that is not locked are none of one that is
+  not-touched : (n : ℕ) → at t n .kind ≡ 1 → at t n .locked ≡ false → (u i x : ℕ) → Shut u (at t i) → In (at t n) x → In (at t i) x → ⊥
+  not-touched n d z u i x sh here ins =
+      not-shut (subst (λ (j : ℕ). Shut u (at t j)) (sym (inv .tiled n i x (record { direct = d; inside = here }) (record { direct = sh .direct; inside = ins }))) sh) z
+
+  -- out: the bytes of n go to the new number
+  deed-out : (q : Request) (n f c : ℕ) → at t n .kind ≡ 1 → at t n .locked ≡ false → newNumber s t ≢ 0 → f < 2 ^ 64
+      → nonceNew s t n f + 1 ≤ spent → Deed m s t q (carried s t (grantPageOut t n f c))
+  deed-out q n f c d z some hf hn =
+      let w : Outward s t n f m = out-writes s t n f m (inv .small) d (inv .good n .formed) some hf hn in
+      let good : Good m a = paged-good m (w .whole .0) (w .storable) (inv .good n .lockable d) in
+      let other : b .tag ≢ at t new .tag = subst (λ (x : Entry). b .tag ≢ x .tag) (w .there) (other-first (stateOut s t n f) (put t n a) new (fresh (at t n)) (omega arith) .other) in
+      deed-put2 q (s .next) (fuse new n) (omega arith) (omega arith)
+      good (w .new-good) (w .inside) (w .new-inside) (w .away)
+      (omega (arith, owned-direct (at t n) d, owned-other (at t new) (omega arith)))
+      (tally-then (tally-keep t n a (s .total) (w .storable) (omega arith) (omega arith)) (tally-give (put t n a) new b (s .total) (w .new-good .storable) (omega arith) (w .new-some) (omega (arith, size-put t n a)) (ap (λ (x : Entry). x .kind) (w .there) ∙ w .free)))
+      (issued (omega arith) (omega arith) (List·Memᴰ·tail (List·Memᴰ·head refl)) (λ h. absurd (omega arith))
+      (λ h x i. record { from = n; has = record { direct = d; inside = omega arith }; to = fuse-second new n x })
+      (λ h. absurd (omega (arith, h .direct))))
+      (issued (omega arith) (omega arith) (List·Memᴰ·head refl) (λ h. absurd (omega arith)) (λ h. absurd (omega arith)) (λ h. absurd (not-shut h z)))
+      (two (anew-first b good (omega arith) (w .inside) (w .away) (new-tag n (outOf (at t n) f) (omega arith))) (anew-second n a (w .new-good) (omega arith) (w .new-inside) other) (w .away))
+      (λ i j v x. fuse-other new n i x v)
+      (λ x h. absurd (omega (arith, h .direct)))
+      (λ x h. second (fuse-second new n x) (refl, omega (arith, h .inside)))
+      (λ i x sh tc ins. not-touched n d z (taskOf q) i x sh (out-touched t n f c x tc) ins)
+    where
+      a : Entry
+      a = entryOut s t n f
+
+      new : ℕ
+      new = numberNew s t n f
+
+      b : Entry
+      b = entryNew s t n f
+
+  -- in: the bytes of the donor k go to n
+  deed-in : (q : Request) (n k c : ℕ) (bs : List ℕ) → at t n .kind ≡ 3 → at t k .kind ≡ 1 → at t k .locked ≡ false → length bs ≡ at t n .length → at t n .length ≡ at t k .length
+      → nonceIn s t n k + 1 ≤ spent → Deed m s t q (carried s t (grantPageIn t n k c bs))
+  deed-in q n k c bs p d z long equal hn =
+      let w : Inward s t n k m = in-writes s t n k m (inv .small) p (inv .good n .formed) d (inv .good k .formed) equal hn in
+      let good : Good m a = direct-good m (omega arith) (omega arith) (w .storable) (inv .good n .pagedLockable p) in
+      let full : at (put t n a) k .kind ≢ 0 = rw (w .there) (omega arith) in
+      deed-put2 q (s .next) (fuse n k) (omega arith) (omega arith)
+      good
+      (free-good m (held-small (put t n a) k))
+      (w .inside) (w .donor-inside) (w .away)
+      (omega (arith, owned-other (at t n) (omega arith), owned-direct (at t k) d))
+      (tally-then (tally-keep t n a (s .total) (good .storable) (omega arith) (omega arith)) (tally-free (put t n a) k (lastHeld (put t n a) k) _ (freed-storable (put t n a) k) full))
+      (gone refl (ap (λ (x : Entry). x .tag) (w .there)) (λ h. not-shut h z))
+      (issued (omega arith) (omega arith) (List·Memᴰ·head refl) (λ h. absurd (omega arith))
+      (λ h x i. record { from = k; has = record { direct = d; inside = omega arith }; to = fuse-second n k x })
+      (λ h. absurd (omega (arith, h .direct))))
+      (one (anew-first _ good (omega arith) (w .inside) (w .away) (new-tag n (inOf (at t n) (at t k)) (omega arith))))
+      (λ i j v x. fuse-other n k i x j)
+      (λ x h. first (fuse-second n k x) (refl, omega (arith, h .inside)))
+      (λ x h. absurd (omega (arith, h .direct)))
+      (λ i x sh tc ins. not-touched k d z (taskOf q) i x sh (in-touched t n k c bs (long ∙ equal) x tc) ins)
+    where
+      a : Entry
+      a = entryIn s t n k
 
   -- ---- drop
 
@@ -465,12 +539,12 @@ module _ (m : ℕ) (s : State) (t : List ℕ) (inv : Inv m s t) where
   climb-fades zero s u n gs = unfaded u (s .total) gs
   climb-fades (suc f) s u n gs =
       by-cond Left (leb 2 (at u n .count))
-      (λ i. recounts (at u n .count - 1) (full (omega (arith, leb-true 2 (at u n .count) i))) (omega (arith, fitting m (at u n) (gs n))) (λ k. omega (arith, leb-true 2 (at u n .count) i)))
+      (λ i. recounts (at u n .count - 1) (stands (omega (arith, leb-true 2 (at u n .count) i))) (omega (arith, fitting m (at u n) (gs n))) (λ k. omega (arith, leb-true 2 (at u n .count) i)))
       (λ i. by-cond Left (eqb (at u n .count) 0) (λ z. unfaded u (s .total) gs)
       (λ z. by-cond Left (eqb (at u n .kind) 1)
-      (λ j. recounts 0 (omega (arith, eqb-true (at u n .kind) 1 j)) (omega arith) (λ k. absurd (omega (arith, eqb-true (at u n .kind) 1 j))))
+      (λ j. recounts 0 (direct-present (at u n) (eqb-true (at u n .kind) 1 j)) (omega arith) (λ k. absurd (omega (arith, eqb-true (at u n .kind) 1 j))))
       (λ j.
-      let there = full (eqb-false (at u n .count) 0 z) in
+      let there = stands (eqb-false (at u n .count) 0 z) .full in
       let once = put-fades u (s .total) gs n there (fallen refl refl (eqb-false (at u n .kind) 1 j)) (free-good m (held-small u n)) (tally-free u n (lastHeld u n) (s .total) (freed-storable u n) there) in
       by-cond (λ ws. Left (vacate n ∷ ws)) (linked u (at u n))
       (λ v.
@@ -481,13 +555,13 @@ module _ (m : ℕ) (s : State) (t : List ℕ) (inv : Inv m s t) where
       Left : List Write → Type 0
       Left ws = let b = written 0 (opened s u) ws in Fading u (s .total) (b .table) (b .state .total)
 
-      full : at u n .count ≢ 0 → at u n .kind ≢ 0
-      full = fitting m (at u n) (gs n) .counted
+      stands : at u n .count ≢ 0 → Present (at u n)
+      stands = fitting m (at u n) (gs n) .counted
 
-      recounts : (c : ℕ) → at u n .kind ≢ 0 → c < 65536 → (at u n .kind ≡ 2 → 1 ≤ c) → Fading u (s .total) (put u n (recounted (at u n) c)) (s .total)
+      recounts : (c : ℕ) → Present (at u n) → c < 65536 → (at u n .kind ≡ 2 → 1 ≤ c) → Fading u (s .total) (put u n (recounted (at u n) c)) (s .total)
       recounts c there small some =
           let g = recount-good m (gs n) there small some in
-          put-fades u (s .total) gs n there (stays refl refl refl) g (tally-keep u n _ (s .total) (g .storable) there there)
+          put-fades u (s .total) gs n (there .full) (stays refl refl refl) g (tally-keep u n _ (s .total) (g .storable) (there .full) (there .full))
 
   -- writes that issue nothing, after which the table has faded
   deed-fading : (q : Request) (ws : List Write) (k : ℕ) → Calm ws → (let b = written 0 (opened s t) ws in Fading t (s .total) (b .table) (b .state .total)) → Deed m s t q (carried s t (record { writes = ws; encoding = 0; dropped = k; length = 0; effect = nothing }))
@@ -537,7 +611,7 @@ module _ (m : ℕ) (s : State) (t : List ℕ) (inv : Inv m s t) where
 
   pub revoked-good : (n : ℕ) → at t n .kind ≡ 1 → let ν = otherNonce s t n (fresh (at t n)) in ν < spent → Good m (issue s n (fresh (at t n) ν))
   revoked-good n d hn =
-      let whole = range m (at t n) (omega arith) (inv .good n .formed) in
+      let whole = range m (at t n) (direct-present (at t n) d) (inv .good n .formed) in
       issue-direct m s n (inv .small) (whole .0) (whole .1) (omega arith) (omega arith) (omega arith) refl
 
   deed-revoke : (k c : ℕ) → at t (numberOf k) .kind ≡ 1 → otherNonce s t (numberOf k) (fresh (namedEntry t k)) < spent → Deed m s t (revoke k c) (carried s t (grantRevoke t (numberOf k) c))
@@ -555,7 +629,7 @@ module _ (m : ℕ) (s : State) (t : List ℕ) (inv : Inv m s t) where
       nr (revokes (inv .tiled n i x (record { direct = d; inside = (there .0, omega (arith, simp (length-replicate) at (there .1))) }) (record { direct = sh .direct; inside = ins }))))
 
   -- lock and unlock write the lock at the owner of a line that is open to the task
-  deed-lock : (q : Request) (n : ℕ) (locked : Bool) (h : ℕ) → not (eqb (at t n .kind) 0) ≡ true → Live (lineOf m t n) → not (lockedFrom t (taskOf q) (lineOf m t n)) ≡ true
+  deed-lock : (q : Request) (n : ℕ) (locked : Bool) (h : ℕ) → Present (at t n) → Live (lineOf m t n) → not (lockedFrom t (taskOf q) (lineOf m t n)) ≡ true
       → h < 2 ^ 55 → (locked && eqb h 0) ≡ false → (not locked && not (eqb h 0)) ≡ false → Deed m s t q (carried s t (grantLock t (ownerOf (lineOf m t n)) locked h))
   deed-lock q n locked h k v o hh a b =
       let l : Line = lineOf m t n in
@@ -564,7 +638,7 @@ module _ (m : ℕ) (s : State) (t : List ℕ) (inv : Inv m s t) where
       (relock-good m (inv .good (ownerOf l)) d hh a b)
       (omega arith)
       (record { kind = refl; base = refl; length = refl })
-      (kept refl (λ x h. refl) (λ i. absurd (owner-open t l (taskOf q) v o i)))
+      (kept refl (λ x h. refl) (λ i. absurd (owner-open t l (taskOf q) (ends n k v) o i)))
       none
       (λ i x sh nr tc ins. spares x tc)
 
@@ -597,7 +671,7 @@ module _ (m : ℕ) (s : State) (t : List ℕ) (inv : Inv m s t) where
   deed-granted (derive k o l p c) b nr h =
       let e : Entry = namedEntry t k in
       deed-derive (derive k o l p c) (numberOf k) o l p c
-      (neqb-true (e .kind) 0 (search))
+      (present e (search) (search))
       (neqb-true (newNumber s t) 0 (search))
       (omega (arith, neqb-true l 0 (search)))
       (let ends = rest-passed m s t (derive k o l p c) b h .1 .0 in omega (arith, leb-true))
@@ -607,7 +681,7 @@ module _ (m : ℕ) (s : State) (t : List ℕ) (inv : Inv m s t) where
       (leb-true _ spent (search))
   deed-granted (executeOnly k c) b nr h =
       let e : Entry = namedEntry t k in
-      let full : e .kind ≢ 0 = neqb-true (e .kind) 0 (search) in
+      let full : Present e = present e (search) (search) in
       deed-derive (executeOnly k c) (numberOf k) 0 (e .length) X c
       full
       (neqb-true (newNumber s t) 0 (search))
@@ -619,23 +693,41 @@ module _ (m : ℕ) (s : State) (t : List ℕ) (inv : Inv m s t) where
       (leb-true _ spent (search))
   deed-granted (clone k) b nr h =
       let e : Entry = namedEntry t k in
-      let full : e .kind ≢ 0 = neqb-true (e .kind) 0 (search) in
+      let full : Present e = present e (search) (search) in
       deed-put (clone k) (omega arith) refl
       (recount-good m (inv .good (numberOf k)) full (omega (arith, ltb-true (e .count) 65535 (search))) (λ i. omega arith))
-      full (record { kind = refl; base = refl; length = refl }) (kept refl (λ x h. refl) (λ h. (refl, refl))) none (λ i x sh nr tc ins. spares x tc)
+      (full .full) (record { kind = refl; base = refl; length = refl }) (kept refl (λ x h. refl) (λ h. (refl, refl))) none (λ i x sh nr tc ins. spares x tc)
   deed-granted (release k) b nr h = deed-release k b
   deed-granted (lock k u) b nr h =
-      deed-lock (lock k u) (numberOf k) true u (search) (search, search) (search) (ltb-true u (2 ^ 55) (search)) (not-true _ (search)) refl
-  deed-granted (unlock k u) b nr h = deed-lock (unlock k u) (numberOf k) false 0 (search) (search, search) (search) (omega arith) refl refl
+      deed-lock (lock k u) (numberOf k) true u (present (namedEntry t k) (search) (search)) (search, search) (search) (ltb-true u (2 ^ 55) (search)) (not-true _ (search)) refl
+  deed-granted (unlock k u) b nr h = deed-lock (unlock k u) (numberOf k) false 0 (present (namedEntry t k) (search) (search)) (search, search) (search) (omega arith) refl refl
   deed-granted (load k u φ) b nr h =
       let ends = rest-passed m s t (load k u φ) b h .1 .0 in
-      deed-image (load k u φ) k 0 _ (search) (search, search) (search) (λ x. by x (leb-true (farthest (piecesOf b)) (namedEntry t k .length) ends))
+      deed-image (load k u φ) k 0 _ (present (namedEntry t k) (search) (search)) (search, search) (search) (λ x. by x (leb-true (farthest (piecesOf b)) (namedEntry t k .length) ends))
     where
       by : (x : ℕ) → farthest (piecesOf b) ≤ namedEntry t k .length → Touches (grantLoad (namedEntry t k) b .effect) x → In (namedEntry t k) x
       by x e (inl h) = omega (arith, placed-touches (namedEntry t k .base) (piecesOf b) x h)
-  deed-granted (dump k u φ) b nr h = deed-image (dump k u φ) k _ _ (search) (search, search) (search) by
+  deed-granted (dump k u φ) b nr h = deed-image (dump k u φ) k _ _ (present (namedEntry t k) (search) (search)) (search, search) (search) by
     where
       by : (x : ℕ) → Touches (grantDump (namedEntry t k) .effect) x → In (namedEntry t k) x
       by x (inr h) = h
+  deed-granted (pageOut k u f c) b nr h =
+      let e : Entry = namedEntry t k in
+      deed-out (pageOut k u f c) (numberOf k) f c
+      (eqb-true (e .kind) 1 (search))
+      (not-true _ (search))
+      (neqb-true (newNumber s t) 0 (search))
+      (ltb-true f (2 ^ 64) (search))
+      (leb-true _ spent (search))
+  deed-granted (pageIn j k u c) b nr h =
+      let e : Entry = namedEntry t j in
+      let d : Entry = namedEntry t k in
+      deed-in (pageIn j k u c) (numberOf j) (numberOf k) c b
+      (eqb-true (e .kind) 3 (search))
+      (eqb-true (d .kind) 1 (search))
+      (not-true _ (search))
+      (eqb-true (length b) (e .length) (search))
+      (eqb-true (e .length) (d .length) (search))
+      (leb-true _ spent (search))
   deed-granted (revoke k c) b nr h =
       deed-revoke k c (eqb-true (namedEntry t k .kind) 1 (search)) (omega (arith, leb-true (otherNonce s t (numberOf k) (fresh (namedEntry t k)) + 1) spent (search)))

@@ -14,7 +14,7 @@ use Rattle.bits.proofs.TestLaws.{both}
 use Rattle.layout.specs.Form.{illFormed}
 use Rattle.layout.specs.declared.entry.Entry.{Entry}
 use Rattle.machine.specs.Depth.{climbMeets, Depth, lastOf, walkMeets}
-use Rattle.machine.specs.Line.{endOf, Line, linked, parentNumber, walk}
+use Rattle.machine.specs.Line.{endOf, isPaged, Line, linked, parentNumber, walk}
 use Rattle.machine.specs.Operations.{climb}
 use Rattle.machine.specs.Parts.{at, size}
 use Rattle.machine.specs.Writes.{vacate, vacated, Write}
@@ -99,7 +99,7 @@ below-size t n h = rw (count-all (size t)) at (count-lt (older t (at t n .nonce)
 fewer : (t u : List ℕ) (n p : ℕ) → size u ≡ size t → ((i : ℕ) → at u i .kind ≢ 0 → at u i ≡ at t i) → at u p ≡ at t p → Link (at t n) (at t p) → below u p < below t n
 unfolding below
 fewer t u n p z same q l =
-    rw z (count-lt (older u (at u p .nonce)) (older t (at t n .nonce)) sub (size t) p (in-table t p (l .full)) (not-itself u p) (is-older t (at t n .nonce) p (l .full) (l .older)))
+    rw z (count-lt (older u (at u p .nonce)) (older t (at t n .nonce)) sub (size t) p (in-table t p (l .present .full)) (not-itself u p) (is-older t (at t n .nonce) p (l .present .full) (l .older)))
   where
     sub : (i : ℕ) → older u (at u p .nonce) i ≡ true → older t (at t n .nonce) i ≡ true
     sub i h =
@@ -115,10 +115,11 @@ walk-most zero m t n = omega arith
 walk-most (suc f) m t n =
     by-cond P (illFormed m (at t n)) (λ w. omega arith)
     (λ w. by-cond P (eqb (at t n .kind) 1) (λ d. omega arith)
-    (λ d. by-cond P (linked t (at t n))
+    (λ d. by-cond P (isPaged (at t n)) (λ g. omega arith)
+    (λ g. by-cond P (linked t (at t n))
     (λ l. let p : ℕ = parentNumber (at t n) in
     omega (arith, walk-most f m t p, fewer t t n p refl (λ i k. refl) refl (link (at t n) (parent t n) l)))
-    (λ l. omega arith)))
+    (λ l. omega arith))))
   where
     P : List ℕ → Type 0
     P ks = length (n ∷ ks) ≤ suc (below t n)
@@ -135,9 +136,10 @@ walk-ends zero m t n = refl
 walk-ends (suc f) m t n =
     by-both P (illFormed m (at t n)) (λ w. refl)
     (λ w. by-both P (eqb (at t n .kind) 1) (λ d. refl)
-    (λ d. by-both P (linked t (at t n))
+    (λ d. by-both P (isPaged (at t n)) (λ g. refl)
+    (λ g. by-both P (linked t (at t n))
     (λ l. let p : ℕ = parentNumber (at t n) in walk-ends f m t p ∙ last-same f m t p p n)
-    (λ l. refl)))
+    (λ l. refl))))
   where
     P : Line → List ℕ → Type 0
     P x ks = endOf x ≡ lastOf n ks
@@ -165,7 +167,7 @@ climb-most (suc f) t n h =
     let z : size (vacated t n) ≡ size t = size-put t n _ in
     -- the parent is another entry, so that it is still there when the child is freed
     let apart : p ≢ n = λ e. omega (arith, ap (λ (i : ℕ). at t i .nonce) e) in
-    omega (arith, climb-most f (vacated t n) p (rw z (in-table t p (k .full))), fewer t (vacated t n) n p z (λ i j. freed t n i h j) (vacated-other t n p apart) k))
+    omega (arith, climb-most f (vacated t n) p (rw z (in-table t p (k .present .full))), fewer t (vacated t n) n p z (λ i j. freed t n i h j) (vacated-other t n p apart) k))
     (λ l. omega arith))))
   where
     P : List ℕ → Type 0

@@ -30,6 +30,7 @@ core e = record {
   holder = 0;
   user = e .user;
   parent = e .parent;
+  page = e .page;
   zeros = e .zeros;
   permissions = e .permissions;
   locked = false;
@@ -186,13 +187,13 @@ module _ (m : ℕ) (s : State) (t : List ℕ) (q : Request) (d : Decision) (inv 
       go (kept e g h) (kept f g′ h′) =
           inside-same (at t n) (parent t n) (at t′ n) (parent t′ n) e (f ∙ ap (λ (x : Entry). core (at t (parentNumber x))) e)
           (inv .inside n (linked-same t t′ n e f l))
-      go (kept e g h) (gone z τ i) = absurd (k .full z)
+      go (kept e g h) (gone z τ i) = absurd (k .present .full z)
       go (kept e g h) (issued a b i j f r) =
           absurd (omega (arith, k .older, deed .above, ap (λ (x : Entry). x .nonce) e, inv .below n (omega (arith, l .indirect, ap (λ (x : Entry). x .kind) e))))
       go (gone z τ i) f = absurd (omega (arith, l .indirect))
       go (issued a b i j f r) (kept e g h) =
           inside-same (at t′ n) (at t (parentNumber (at t′ n))) (at t′ n) (parent t′ n) refl e (j (l .indirect) .1)
-      go (issued a b i j f r) (gone z τ h) = absurd (k .full z)
+      go (issued a b i j f r) (gone z τ h) = absurd (k .present .full z)
       go (issued a b i j f r) (issued a′ b′ i′ j′ f′ r′) = absurd (omega (arith, k .older, j (l .indirect) .0))
 
   pub inv-step : Inv m (d .state) (d .table)

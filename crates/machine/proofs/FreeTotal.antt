@@ -14,7 +14,7 @@ use Rattle.machine.specs.FreeTotal.{Beside, handedTotal, InRange, Kept, 
 use Rattle.machine.specs.Issuing.{newNumber, passOver}
 use Rattle.machine.specs.Operations.{Decision, Grant, grant, granted}
 use Rattle.machine.specs.Parts.{at, mostFree, size, spent, State, totalled}
-use Rattle.machine.specs.Requests.{access, Call, clone, create, derive, dump, executeOnly, load, lock, merge, release, Request, reset, revoke, unlock}
+use Rattle.machine.specs.Requests.{access, Call, clone, create, derive, dump, executeOnly, load, lock, merge, pageIn, pageOut, release, Request, reset, revoke, unlock}
 use Rattle.machine.specs.Steps.{answer, answers, bufferAfter, decide, decision, Machine, memoryAfter, pass, run, settle, step, stop, Verdict, verdict}
 use Rattle.machine.specs.Stops.{checks, places}
 use Rattle.machine.specs.Writes.{alter, begin, Book, give, opened, reissue, vacate, Write, write, written}
@@ -131,6 +131,8 @@ module _ (m : ℕ) (s : State) (t : List ℕ) (k : ℕ) (old : leb (s .total) (m
   places-same (revoke j c) b = rw (old, new)
   places-same (load j u φ) b = rw (old, new)
   places-same (dump j u φ) b = rw (old, new)
+  places-same (pageOut j u f c) b = rw (old, new)
+  places-same (pageIn i j u c) b = rw (old, new)
 
   module _ (q : Request) (b : List ℕ) where
     abbrev g : Grant

@@ -29,6 +29,7 @@ from-reset σ k0 k1 ν b ok after nr =
       storable = λ n k. inv .good n .storable;
       below = inv .below;
       lockable = λ n. inv .good n .lockable;
+      pagedLockable = λ n. inv .good n .pagedLockable;
       counted = λ n. inv .good n .counted;
       inside = inv .inside;
     }

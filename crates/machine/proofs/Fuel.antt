@@ -11,16 +11,16 @@ use lib.Dec.{eqb, leb, ltb}
 use borrow.Author.Tests.{eqb-true, eqb-false, le-ltb, lt-ltb, ltb-true}
 use Rattle.layout.specs.Form.{illFormed}
 use Rattle.layout.specs.declared.entry.Entry.{Entry}
-use Rattle.layout.specs.Entry.{Laid, laidDirect, laidIndirect}
+use Rattle.layout.specs.Entry.{Laid, laidDirect, laidIndirect, laidPaged}
 use Rattle.layout.proofs.FormLaws.{laid}
 use Rattle.machine.specs.Demand3.{above, itself, Owns}
 use Rattle.machine.specs.Issuing.{after, issue, lastHeld, newNumber, otherNonce, passOver, seek}
-use Rattle.machine.specs.Line.{isDead, isIll, Line, linked, lineOf, ownerOf, parentNumber, walk}
+use Rattle.machine.specs.Line.{isDead, isIll, isPaged, Line, linked, lineOf, owner, ownerOf, parentNumber, walk}
 use Rattle.machine.specs.Operations.{climb}
 use Rattle.machine.specs.Parts.{at, size, spent, State}
 use Rattle.machine.specs.Searches.{FirstFree, FirstOther, NoneFree, onward, SameTag}
 use Rattle.machine.specs.Writes.{vacate, vacated, Write}
-use Rattle.machine.proofs.Basics.{link, parent}
+use Rattle.machine.proofs.Basics.{link, parent, Present}
 use Rattle.machine.proofs.Choices.{by-both, by-cond}
 use Rattle.machine.proofs.TableLaws.{vacated-other}
 
@@ -38,18 +38,19 @@ abbrev pub Live : Line → Type 0
 Live l = (not (isIll l) ≡ true) × (not (isDead l) ≡ true)
 
 -- a live walk ends at the owner
-pub walk-owns : (f m : ℕ) (t : List ℕ) (n : ℕ) → at t n .kind ≢ 0 → Live (walk f m t n) → Owns t n (ownerOf (walk f m t n))
+pub walk-owns : (f m : ℕ) (t : List ℕ) (n : ℕ) → Present (at t n) → Live (walk f m t n) → Owns t n (ownerOf (walk f m t n))
 unfolding walk
 walk-owns zero m t n k = λ h. absurd (false≢true (h .1))
 walk-owns (suc f) m t n k =
     by-cond P (illFormed m (at t n)) (λ w h. absurd (false≢true (h .0)))
     (λ w. by-cond P (eqb (at t n .kind) 1)
     (λ d h. itself (eqb-true (at t n .kind) 1 d))
-    (λ d. by-cond P (linked t (at t n))
+    (λ d. by-cond P (isPaged (at t n)) (λ g h. absurd (k .here (eqb-true (at t n .kind) 3 g)))
+    (λ g. by-cond P (linked t (at t n))
     (λ l h.
-    above (record { indirect = kind-two (laid m (at t n) k w) (eqb-false (at t n .kind) 1 d); holds = l })
-    (walk-owns f m t (parentNumber (at t n)) (link (at t n) (parent t n) l .full) h))
-    (λ l h. absurd (false≢true (h .1)))))
+    above (record { indirect = kind-two (laid m (at t n) (k .full) w) (eqb-false (at t n .kind) 1 d); holds = l })
+    (walk-owns f m t (parentNumber (at t n)) (link (at t n) (parent t n) l .present) h))
+    (λ l h. absurd (false≢true (h .1))))))
   where
     P : Line → Type 0
     P x = Live x → Owns t n (ownerOf x)
@@ -57,16 +58,30 @@ walk-owns (suc f) m t n k =
     kind-two : Laid (at t n .kind) → at t n .kind ≢ 1 → at t n .kind ≡ 2
     kind-two (laidDirect i) d = absurd (d i)
     kind-two (laidIndirect i) d = i
+    kind-two (laidPaged i) d = absurd (k .here i)
+
+pub walk-owner : (f m : ℕ) (t : List ℕ) (n : ℕ) → Present (at t n) → Live (walk f m t n) → walk f m t n ≡ owner (ownerOf (walk f m t n))
+unfolding walk
+walk-owner zero m t n k = λ h. absurd (false≢true (h .1))
+walk-owner (suc f) m t n k =
+    by-cond P (illFormed m (at t n)) (λ w h. absurd (false≢true (h .0)))
+    (λ w. by-cond P (eqb (at t n .kind) 1) (λ d h. refl)
+    (λ d. by-cond P (isPaged (at t n)) (λ g h. absurd (k .here (eqb-true (at t n .kind) 3 g)))
+    (λ g. by-cond P (linked t (at t n)) (λ l h. walk-owner f m t (parentNumber (at t n)) (link (at t n) (parent t n) l .present) h) (λ l h. absurd (false≢true (h .1))))))
+  where
+    P : Line → Type 0
+    P x = Live x → x ≡ owner (ownerOf x)
 
 -- and the owner is well-formed
-pub walk-formed : (f m : ℕ) (t : List ℕ) (n : ℕ) → Live (walk f m t n) → illFormed m (at t (ownerOf (walk f m t n))) ≡ false
+pub walk-formed : (f m : ℕ) (t : List ℕ) (n : ℕ) → Present (at t n) → Live (walk f m t n) → illFormed m (at t (ownerOf (walk f m t n))) ≡ false
 unfolding walk
-walk-formed zero m t n = λ h. absurd (false≢true (h .1))
-walk-formed (suc f) m t n =
+walk-formed zero m t n k = λ h. absurd (false≢true (h .1))
+walk-formed (suc f) m t n k =
     by-cond P (illFormed m (at t n)) (λ w h. absurd (false≢true (h .0)))
     (λ w. by-cond P (eqb (at t n .kind) 1)
     (λ d h. w)
-    (λ d. by-cond P (linked t (at t n)) (λ l h. walk-formed f m t (parentNumber (at t n)) h) (λ l h. absurd (false≢true (h .1)))))
+    (λ d. by-cond P (isPaged (at t n)) (λ g h. absurd (k .here (eqb-true (at t n .kind) 3 g)))
+    (λ g. by-cond P (linked t (at t n)) (λ l h. walk-formed f m t (parentNumber (at t n)) (link (at t n) (parent t n) l .present) h) (λ l h. absurd (false≢true (h .1))))))
   where
     P : Line → Type 0
     P x = Live x → illFormed m (at t (ownerOf x)) ≡ false
@@ -79,10 +94,11 @@ walk-fuel (suc f) zero m t n h i = absurd (omega arith)
 walk-fuel (suc f) (suc g) m t n h i =
     by-both Same (illFormed m (at t n)) (λ w. refl)
     (λ w. by-both Same (eqb (at t n .kind) 1) (λ d. refl)
-    (λ d. by-both Same (linked t (at t n))
+    (λ d. by-both Same (isPaged (at t n)) (λ p. refl)
+    (λ p. by-both Same (linked t (at t n))
     (λ l. let o : at t (parentNumber (at t n)) .nonce < at t n .nonce = link (at t n) (parent t n) l .older in
     walk-fuel f g m t (parentNumber (at t n)) (omega arith) (omega arith))
-    (λ l. refl)))
+    (λ l. refl))))
   where
     Same : Line → Line → Type 0
     Same x y = x ≡ y
@@ -190,6 +206,15 @@ onward-all t k n h hn = go (decLt k n)
         let up : onward t (n - 1) 1 ≡ 1 + (n - 1) = onward-up t (n - 1) 1 (omega arith) in
         let l : suc (left + (n - 1)) ≡ suc left + (n - 1) = omega arith in
         (left + (n - 1), omega arith, rw l (onward-add t (suc left) (n - 1) k ∙ rw turn (omega arith)))
+
+-- a search in a table with the same numbers free finds the same
+seek-same : (f : ℕ) (t t′ : List ℕ) (k : ℕ) → size t′ ≡ size t → ((i : ℕ) → eqb (at t′ i .kind) 0 ≡ eqb (at t i .kind) 0) → seek f t′ k ≡ seek f t k
+unfolding seek
+seek-same zero t t′ k z h = refl
+seek-same (suc f) t t′ k z h = let on : after t′ k ≡ after t k = rw z in rw (on, h (after t k), seek-same f t t′ (after t k) z h)
+
+pub number-same : (s s′ : State) (t t′ : List ℕ) → s′ .last ≡ s .last → size t′ ≡ size t → ((i : ℕ) → eqb (at t′ i .kind) 0 ≡ eqb (at t i .kind) 0) → newNumber s′ t′ ≡ newNumber s t
+number-same s s′ t t′ l z h = rw (z, l) (seek-same (size t - 1) t t′ (s .last) z h)
 
 -- "no free number" is said only if none is free
 pub number-none : (s : State) (t : List ℕ) → newNumber s t ≡ 0 → NoneFree t

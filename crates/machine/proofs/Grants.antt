@@ -8,7 +8,7 @@ use Prim.Native.Nat.{ℕ, _+_, _≤_}
 use native.Mathlib.Omega.{arith}
 use lib.Dec.{eqb}
 use lib.ListN.{length}
-use borrow.Author.Tests.{leb-true, ltb-true}
+use borrow.Author.Tests.{eqb-true, leb-true, ltb-true}
 use Rattle.hex.specs.Text.{loads, Piece, refused, Said, said}
 use Rattle.hex.specs.Written.{writtenLength}
 use Rattle.hex.proofs.DataLaws.{AllData, said-bytes, SaidBytes}
@@ -20,10 +20,10 @@ use Rattle.bits.specs.Bytes.{AllBytes}
 use Rattle.machine.specs.Images.{mostText, piecesIn, piecesOf}
 use Rattle.machine.specs.Operations.{Effect, Fill, fillFrom, Grant, grant, grantRelease, namedEntry, numberOf, partOf, placed, Store, textFrom, transfer, unfilled}
 use Rattle.machine.specs.Parts.{size, State}
-use Rattle.machine.specs.Requests.{access, clone, create, derive, dump, executeOnly, fetching, load, lock, merge, reading, release, Request, reset, revoke, Shift, unlock, Way, writing}
+use Rattle.machine.specs.Requests.{access, clone, create, derive, dump, executeOnly, fetching, load, lock, merge, pageIn, pageOut, reading, release, Request, reset, revoke, Shift, unlock, Way, writing}
 use Rattle.machine.specs.Stops.{checks}
 use Rattle.machine.specs.Writes.{give}
-use Rattle.machine.proofs.Basics.{neqb-true, range}
+use Rattle.machine.proofs.Basics.{present, Present, range}
 use Rattle.bits.proofs.ByteLists.{bytes-zeros}
 use Rattle.machine.proofs.Choices.{by-cond}
 use Rattle.machine.proofs.Decided.{Passed}
@@ -61,7 +61,7 @@ unless h n = either (λ a. absurd (n a)) (λ b. b) h
 pub access-inside : (m : ℕ) (s : State) (t : List ℕ) (w : Way) (k u : ℕ) (φ : Shift) (b : List ℕ) → Passed (checks m s t (access w k u φ) b) → namedEntry t k .base + named k .offset + length b ≤ m
 access-inside m s t w k u φ b h =
     let e : Entry = namedEntry t k in
-    let full : e .kind ≢ 0 = neqb-true (e .kind) 0 (search) in
+    let full : Present e = present e (search) (search) in
     let formed : illFormed m e ≡ false = line-formed m t (numberOf k) (search) in
     let bound : named k .offset + length b ≤ e .length = leb-true (named k .offset + length b) (e .length) (search) in
     omega (arith, range m e full formed)
@@ -102,4 +102,14 @@ granted-fits m s t (lock k u) b h = record { effect = (tt, tt); encoding = omega
 granted-fits m s t (unlock k u) b h = record { effect = (tt, tt); encoding = omega arith; within = inr tt; few = omega arith }
 granted-fits m s t (load k u φ) b h = record { effect = (placed-fits _ b (piecesOf b) (pieces-bytes b), tt); encoding = omega arith; within = inr tt; few = omega arith }
 granted-fits m s t (dump k u φ) b h = record { effect = (tt, leb-true (writtenLength (namedEntry t k .length)) mostText (search)); encoding = omega arith; within = inr tt; few = omega arith }
+granted-fits m s t (pageOut k u f c) b h =
+    let e : Entry = namedEntry t k in
+    let inside = range m e (present e (search) (search)) (line-formed m t (numberOf k) (search)) in
+    record {
+      effect = ((λ i. search (bytes-zeros), tt), (inside .1, omega (arith, eqb-true (length b) (e .length) (search))));
+      encoding = omega (arith, leb-true c 3 (search));
+      within = inr (ltb-true (numberOf k) (size t) (search), tt);
+      few = omega arith;
+    }
+granted-fits m s t (pageIn j k u c) b h = record { effect = ((λ i. i, tt), tt); encoding = omega (arith, leb-true c 3 (search)); within = inr (ltb-true (numberOf j) (size t) (search), tt); few = omega arith }
 granted-fits m s t (revoke k c) b h = record { effect = ((λ i. search (bytes-zeros), tt), tt); encoding = omega (arith, leb-true c 3 (search)); within = inr (ltb-true (numberOf k) (size t) (search), tt); few = omega arith }

@@ -8,7 +8,7 @@ use native.Mathlib.Omega.{arith}
 use native.Mathlib.Decide.{ℕ-discrete}
 use lib.Dec.{eqb}
 use borrow.Author.Tests.{eqb-false, eqb-true, ne-eqb}
-use Rattle.layout.specs.Entry.{freed, isDirect, isFree, isIndirect, Storable}
+use Rattle.layout.specs.Entry.{freed, isDirect, isFree, isIndirect, isPaged, Storable}
 use Rattle.layout.specs.declared.entry.Entry.{Entry}
 use Rattle.machine.specs.Demand3.{Accepted, HoldsOther, issuedIn, resetCall, Returns, Unreset}
 use Rattle.machine.specs.LastToken.{AllOther, heldAfter, heldWith, Keeps, Kept, NeverAgain, unheld}
@@ -121,8 +121,9 @@ never-again σ k0 k1 ν b ok after nr = others-run _ unheld after (well-reset σ
 -- a free entry that can be packed is its tag alone
 bare : (e : Entry) → Storable e → e .kind ≡ 0 → e ≡ freed (e .tag)
 bare e (isFree h i) k = i ∙ ap (λ (x : Entry). freed (x .tag)) (sym i)
-bare e (isDirect i p z f) k = absurd (omega arith)
-bare e (isIndirect i h u f) k = absurd (omega arith)
+bare e (isDirect i p g z f) k = absurd (omega arith)
+bare e (isIndirect i h u g f) k = absurd (omega arith)
+bare e (isPaged i b c h p f) k = absurd (omega arith)
 
 pub tags-kept : Kept
 unfolding Kept

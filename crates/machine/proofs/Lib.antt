@@ -15,9 +15,12 @@ pub mod Grants
 pub mod LastToken
 pub mod Lent
 pub mod LoadImages
+pub mod PageWrites
+pub mod Paging
 pub mod PlaceLaws
 pub mod Recorded
 pub mod Refused
+pub mod Revocation
 pub mod Rows
 pub mod Runs
 pub mod Settled

@@ -24,6 +24,7 @@ use Rattle.tokens.specs.Token.{named}
 use Rattle.machine.specs.Demand3.{Accepted, Closed, In}
 use Rattle.machine.specs.Given.{nameIn}
 use Rattle.machine.specs.Images.{mostText, piecesOf, spares}
+use Rattle.machine.specs.Line.{isPaged}
 use Rattle.machine.specs.LoadImages.{AsAccesses, dumpCall, Dumped, Dumps, loadCall, Loaded, Loads, MayDump, MayLoad, Restores, segmentOf, Shut, textIn}
 use Rattle.machine.specs.Operations.{Decision, grantLoad, namedEntry, numberOf, placed}
 use Rattle.machine.specs.Parts.{State}
@@ -32,7 +33,7 @@ use Rattle.machine.specs.Steps.{answer, decide, decision, Machine, pass,
 use Rattle.machine.specs.Stops.{checks, places}
 use Rattle.machine.specs.WholeDerive.{accessCall, lengthOf}
 use Rattle.machine.specs.Writes.{Name}
-use Rattle.machine.proofs.Basics.{neqb-true, range}
+use Rattle.machine.proofs.Basics.{present, range}
 use Rattle.machine.proofs.Decided.{accepted, granted-by, Passed}
 use Rattle.machine.proofs.Effects.{memory-other}
 use Rattle.machine.proofs.Fates.{Touches}
@@ -53,9 +54,9 @@ text-read b m w = by (accounted .others b)
 -- ---- what a granted request has
 
 -- the named entry lies in memory, and has a byte
-segment-in : (m : ℕ) (t : List ℕ) (k : ℕ) → not (eqb (namedEntry t k .kind) 0) ≡ true → illFormed m (namedEntry t k) ≡ false
+segment-in : (m : ℕ) (t : List ℕ) (k : ℕ) → not (eqb (namedEntry t k .kind) 0) ≡ true → not (isPaged (namedEntry t k)) ≡ true → illFormed m (namedEntry t k) ≡ false
     → (0 < namedEntry t k .length) × (namedEntry t k .base + namedEntry t k .length ≤ m)
-segment-in m t k full formed = range m (namedEntry t k) (neqb-true (namedEntry t k .kind) 0 full) formed
+segment-in m t k full here formed = range m (namedEntry t k) (present (namedEntry t k) full here) formed
 
 pub loads-so : Loads
 unfolding Loads step answer
@@ -66,7 +67,7 @@ loads-so σ k u φ b ok =
     let all : Passed (checks m (σ .state) (σ .table) (load k u φ) b) = both .0 in
     let done = both .1 in
     let ends : farthest (piecesOf b) ≤ e .length = leb-true (farthest (piecesOf b)) (e .length) (search) in
-    let there = segment-in m (σ .table) k (search) (line-formed m (σ .table) (numberOf k) (search)) in
+    let there = segment-in m (σ .table) k (search) (search) (line-formed m (σ .table) (numberOf k) (search)) in
     record {
       pieces = piecesOf b;
       says = text-read b (search) (search);
@@ -96,7 +97,7 @@ dumps-so σ k u φ b ok =
     let both = accepted σ (dumpCall k u φ b) ok in
     let all : Passed (checks m (σ .state) (σ .table) (dump k u φ) b) = both .0 in
     let done = both .1 in
-    let there = segment-in m (σ .table) k (search) (line-formed m (σ .table) (numberOf k) (search)) in
+    let there = segment-in m (σ .table) k (search) (search) (line-formed m (σ .table) (numberOf k) (search)) in
     let part : length (segmentOf σ k) ≡ e .length = simp (length-take, length-drop) (omega (arith, there .1)) in
     let long : length (written (segmentOf σ k)) ≡ writtenLength (e .length) = written-long (segmentOf σ k) ∙ ap writtenLength part in
     let laid = front-laid b (written (segmentOf σ k)) (writtenLength (e .length)) long (leb-true (writtenLength (e .length)) (length b) (search)) in
@@ -105,10 +106,10 @@ dumps-so σ k u φ b ok =
 -- ---- loads and dumps need what accesses need
 
 -- one byte, at the front of the segment
-first-byte : (m : ℕ) (t : List ℕ) (k : ℕ) → eqb (named k .offset) 0 ≡ true → not (eqb (namedEntry t k .kind) 0) ≡ true → illFormed m (namedEntry t k) ≡ false
+first-byte : (m : ℕ) (t : List ℕ) (k : ℕ) → eqb (named k .offset) 0 ≡ true → not (eqb (namedEntry t k .kind) 0) ≡ true → not (isPaged (namedEntry t k)) ≡ true → illFormed m (namedEntry t k) ≡ false
     → leb (named k .offset + 1) (namedEntry t k .length) ≡ true
-first-byte m t k zero full formed =
-    let there = segment-in m t k full formed in
+first-byte m t k zero full here formed =
+    let there = segment-in m t k full here formed in
     let none = eqb-true (named k .offset) 0 zero in
     le-leb (named k .offset + 1) (namedEntry t k .length) (omega (arith, there .0, none))
 
@@ -131,9 +132,9 @@ module _ (σ : Machine) (k u : ℕ) (φ : Shift) (b : List ℕ) where
   may-load : Accepted σ (loadCall k u φ b) → MayLoad σ k u φ b
   may-load ok =
       let a : Passed (checks m (σ .state) t (load k u φ) b) = accepted σ (loadCall k u φ b) ok .0 in
-      let one = first-byte m t k (search) (search) (line-formed m t (numberOf k) (search)) in
+      let one = first-byte m t k (search) (search) (search) (line-formed m t (numberOf k) (search)) in
       record {
-        access = granted-by σ (accessCall writing k u φ (0 ∷ [])) (search, (search, (search, (search, (search, (search, (search, (search, (search, (search, (refl, (refl, (search, (search, (search, (search, (search, (search, (search, (search, (search, (search, (search, (search, (one, (search, tt))))))))))))))))))))))))));
+        access = granted-by σ (accessCall writing k u φ (0 ∷ [])) (search, (search, (search, (search, (search, (search, (search, (search, (search, (search, (refl, (refl, (search, (search, (search, (search, (search, (search, (search, (search, (search, (search, (search, (search, (search, (one, (search, tt)))))))))))))))))))))))))));
         offset = eqb-true (named k .offset) 0 (search);
         short = leb-true (length b) 65536 (search);
         pieces = piecesOf b;
@@ -150,14 +151,14 @@ module _ (σ : Machine) (k u : ℕ) (φ : Shift) (b : List ℕ) where
       let thirteen = spared 13 b (h .pieces) (λ e. omega (arith, e)) (h .says) in
       let ends : leb (farthest (piecesOf b)) (lengthOf σ k) ≡ true = rw (pieces-are b (h .pieces) (h .says)) (le-leb (farthest (h .pieces)) (lengthOf σ k) (h .inside)) in
       granted-by σ (loadCall k u φ b)
-      (search, (search, (search, (search, (search, (search, (search, (search, (search, (search, (offset, (long, (search, (search, (search, (twelve, (thirteen, (search, (search, (search, (search, (search, (search, (search, (search, (search, (ends, (search, tt))))))))))))))))))))))))))))
+      (search, (search, (search, (search, (search, (search, (search, (search, (search, (search, (offset, (long, (search, (search, (search, (twelve, (thirteen, (search, (search, (search, (search, (search, (search, (search, (search, (search, (search, (ends, (search, tt)))))))))))))))))))))))))))))
 
   may-dump : Accepted σ (dumpCall k u φ b) → MayDump σ k u φ b
   may-dump ok =
       let a : Passed (checks m (σ .state) t (dump k u φ) b) = accepted σ (dumpCall k u φ b) ok .0 in
-      let one = first-byte m t k (search) (search) (line-formed m t (numberOf k) (search)) in
+      let one = first-byte m t k (search) (search) (search) (line-formed m t (numberOf k) (search)) in
       record {
-        access = granted-by σ (accessCall reading k u φ (0 ∷ [])) (search, (search, (search, (search, (search, (search, (search, (search, (search, (search, (refl, (refl, (search, (search, (search, (search, (search, (search, (search, (search, (search, (search, (search, (search, (one, (search, tt))))))))))))))))))))))))));
+        access = granted-by σ (accessCall reading k u φ (0 ∷ [])) (search, (search, (search, (search, (search, (search, (search, (search, (search, (search, (refl, (refl, (search, (search, (search, (search, (search, (search, (search, (search, (search, (search, (search, (search, (search, (one, (search, tt)))))))))))))))))))))))))));
         offset = eqb-true (named k .offset) 0 (search);
         short = leb-true (writtenLength (lengthOf σ k)) 65536 (search);
         room = leb-true (writtenLength (lengthOf σ k)) (length b) (search);
@@ -170,7 +171,7 @@ module _ (σ : Machine) (k u : ℕ) (φ : Shift) (b : List ℕ) where
       let long = le-leb (writtenLength (lengthOf σ k)) mostText (h .short) in
       let room = le-leb (writtenLength (lengthOf σ k)) (length b) (h .room) in
       granted-by σ (dumpCall k u φ b)
-      (search, (search, (search, (search, (search, (search, (search, (search, (search, (search, (offset, (search, (search, (search, (search, (search, (search, (search, (search, (search, (search, (search, (search, (long, (room, (search, tt))))))))))))))))))))))))))
+      (search, (search, (search, (search, (search, (search, (search, (search, (search, (search, (offset, (search, (search, (search, (search, (search, (search, (search, (search, (search, (search, (search, (search, (search, (long, (room, (search, tt)))))))))))))))))))))))))))
 
 pub as-accesses : AsAccesses
 as-accesses = record { loads = may-load; load = loaded-by; dumps = may-dump; dump = dumped-by }
@@ -202,7 +203,7 @@ module _ (τ : Machine) (j v : ℕ) (ψ : Shift) (bs : List ℕ) (bytes : AllByt
       let same : loads (did .pieces) ≡ loads (back .pieces) = sym (did .says) ∙ back .says in
       let pieces : did .pieces ≡ back .pieces = cc in
       let a : Passed (checks (length (τ .memory)) (τ .state) (τ .table) (access writing j v ψ) (0 ∷ [])) = accepted τ (accessCall writing j v ψ (0 ∷ [])) ok .0 in
-      let there = segment-in (length (τ .memory)) (τ .table) j (search) (line-formed (length (τ .memory)) (τ .table) (numberOf j) (search)) in
+      let there = segment-in (length (τ .memory)) (τ .table) j (search) (search) (line-formed (length (τ .memory)) (τ .table) (numberOf j) (search)) in
       let part : length (segmentOf τ j) ≡ lengthOf τ j = simp (length-take, length-drop) (omega (arith, there .1)) in
       (granted, did .segment ∙ ap (λ (ps : List Piece). apply ps (segmentOf τ j)) pieces ∙ back .restores (segmentOf τ j) (part ∙ equal))
 
@@ -212,7 +213,7 @@ restores σ k u φ b bytes ok τ j v ψ none equal opened =
     let m : ℕ = length (σ .memory) in
     let e : Entry = namedEntry (σ .table) k in
     let all : Passed (checks m (σ .state) (σ .table) (dump k u φ) b) = accepted σ (dumpCall k u φ b) ok .0 in
-    let there = segment-in m (σ .table) k (search) (line-formed m (σ .table) (numberOf k) (search)) in
+    let there = segment-in m (σ .table) k (search) (search) (line-formed m (σ .table) (numberOf k) (search)) in
     let part : length (segmentOf σ k) ≡ e .length = simp (length-take, length-drop) (omega (arith, there .1)) in
     let short : writtenLength (e .length) ≤ mostText = leb-true (writtenLength (e .length)) mostText (search) in
     let own : AllBytes (segmentOf σ k) = bytes-take (e .length) (drop (e .base) (σ .memory)) (bytes-drop (e .base) (σ .memory) bytes) in

@@ -11,7 +11,7 @@ use lib.ListN.{length}
 use borrow.Author.Tests.{eqb-true, le-leb, ltb-true}
 use Rattle.machine.specs.Operations.{Grant, grant}
 use Rattle.machine.specs.Parts.{begun, spent, State}
-use Rattle.machine.specs.Requests.{access, Call, clone, create, derive, dump, executeOnly, load, lock, merge, release, Request, reset, revoke, taskOf, unlock}
+use Rattle.machine.specs.Requests.{access, Call, clone, create, derive, dump, executeOnly, load, lock, merge, pageIn, pageOut, release, Request, reset, revoke, taskOf, unlock}
 use Rattle.machine.specs.Rows.{Among, ended, numbers, Ordered, row, Tasks}
 use Rattle.machine.specs.Steps.{answer, decide, Machine, pass, settle, stop, Verdict, verdict}
 use Rattle.machine.specs.Stops.{atRequest, Check, checks, needAll, noncesLeft, Places, places, refusalNumber, settings, sizes}
@@ -84,28 +84,33 @@ module _ (m : ℕ) (s : State) (t : List ℕ) (q : Request) (b : List ℕ) where
 fifth : {a b c d : ℕ} {ns : List ℕ} → List·Memᴰ 5 (a ∷ b ∷ c ∷ d ∷ 5 ∷ ns)
 fifth = List·Memᴰ·tail (List·Memᴰ·tail (List·Memᴰ·tail (List·Memᴰ·tail (List·Memᴰ·head refl))))
 
--- and after 16, and after 12 and 13 too
+-- behind 17 too, after 16, and after 12 and 13
 sixth : {a b c d e : ℕ} {ns : List ℕ} → List·Memᴰ 5 (a ∷ b ∷ c ∷ d ∷ e ∷ 5 ∷ ns)
 sixth = List·Memᴰ·tail fifth
 
-eighth : {a b c d e f g : ℕ} {ns : List ℕ} → List·Memᴰ 5 (a ∷ b ∷ c ∷ d ∷ e ∷ f ∷ g ∷ 5 ∷ ns)
-eighth = List·Memᴰ·tail (List·Memᴰ·tail sixth)
+seventh : {a b c d e f : ℕ} {ns : List ℕ} → List·Memᴰ 5 (a ∷ b ∷ c ∷ d ∷ e ∷ f ∷ 5 ∷ ns)
+seventh = List·Memᴰ·tail sixth
+
+ninth : {a b c d e f g h : ℕ} {ns : List ℕ} → List·Memᴰ 5 (a ∷ b ∷ c ∷ d ∷ e ∷ f ∷ g ∷ h ∷ 5 ∷ ns)
+ninth = List·Memᴰ·tail (List·Memᴰ·tail seventh)
 
 -- its checks are those of its row, what stops it is one of them, and it carries a task only if it is judged for the lock
 row-of : (m : ℕ) (s : State) (t : List ℕ) (q : Request) (b : List ℕ)
     → (numbers 0 (checks m s t q b) ≡ ended (row q)) × Stopped (0 ∷ row q) (verdict (checks m s t q b)) × ((taskOf q ≡ 0) ⊎ List·Memᴰ 5 (row q))
 row-of m s t (reset k0 k1 ν) b = (refl, spares m s t (reset k0 k1 ν) b refl (λ p. le-leb ν spent (omega (arith, ltb-true ν spent (p .1 .1 .1 .1 .1 .1 .0)))), inl refl)
-row-of m s t (access w k u φ) b = (refl, spares m s t (access w k u φ) b refl (calm m s t (access w k u φ) b _ refl tt), inr sixth)
-row-of m s t (create k u l x p c) b = (refl, issues m s t (create k u l x p c) b refl, inr fifth)
-row-of m s t (merge j k u c) b = (refl, issues m s t (merge j k u c) b refl, inr fifth)
+row-of m s t (access w k u φ) b = (refl, spares m s t (access w k u φ) b refl (calm m s t (access w k u φ) b _ refl tt), inr seventh)
+row-of m s t (create k u l x p c) b = (refl, issues m s t (create k u l x p c) b refl, inr sixth)
+row-of m s t (merge j k u c) b = (refl, issues m s t (merge j k u c) b refl, inr sixth)
 row-of m s t (derive k o l p c) b = (refl, issues m s t (derive k o l p c) b refl, inl refl)
 row-of m s t (executeOnly k c) b = (refl, issues m s t (executeOnly k c) b refl, inl refl)
 row-of m s t (clone k) b = (refl, spares m s t (clone k) b refl (calm m s t (clone k) b _ refl tt), inl refl)
 row-of m s t (release k) b = (refl, spares m s t (release k) b refl (calm m s t (release k) b _ refl (release-calm m t _)), inl refl)
-row-of m s t (lock k u) b = (refl, spares m s t (lock k u) b refl (calm m s t (lock k u) b _ refl tt), inr fifth)
-row-of m s t (unlock k u) b = (refl, spares m s t (unlock k u) b refl (calm m s t (unlock k u) b _ refl tt), inr fifth)
-row-of m s t (load k u φ) b = (refl, spares m s t (load k u φ) b refl (calm m s t (load k u φ) b _ refl tt), inr eighth)
-row-of m s t (dump k u φ) b = (refl, spares m s t (dump k u φ) b refl (calm m s t (dump k u φ) b _ refl tt), inr sixth)
+row-of m s t (lock k u) b = (refl, spares m s t (lock k u) b refl (calm m s t (lock k u) b _ refl tt), inr sixth)
+row-of m s t (unlock k u) b = (refl, spares m s t (unlock k u) b refl (calm m s t (unlock k u) b _ refl tt), inr sixth)
+row-of m s t (load k u φ) b = (refl, spares m s t (load k u φ) b refl (calm m s t (load k u φ) b _ refl tt), inr ninth)
+row-of m s t (dump k u φ) b = (refl, spares m s t (dump k u φ) b refl (calm m s t (dump k u φ) b _ refl tt), inr seventh)
+row-of m s t (pageOut k u f c) b = (refl, issues m s t (pageOut k u f c) b refl, inr sixth)
+row-of m s t (pageIn j k u c) b = (refl, issues m s t (pageIn j k u c) b refl, inr fifth)
 row-of m s t (revoke k c) b = (refl, issues m s t (revoke k c) b refl, inl refl)
 
 pub rows-ordered : Ordered

@@ -29,7 +29,7 @@ use Rattle.machine.proofs.Sums.{owned-cleared, sum-first, vacant-cleare
 use Rattle.machine.proofs.TableLaws.{at-cleared, at-same, size-cleared, size-put}
 use Rattle.machine.proofs.Tallies.{Tally}
 use Rattle.machine.proofs.WriteLaws.{Within}
-use Rattle.machine.proofs.Written.{direct-good, free-good, Good}
+use Rattle.machine.proofs.Written.{direct-good, direct-storable, free-good, Good}
 
 -- ---- one request
 
@@ -173,7 +173,7 @@ module _ (m : ℕ) (t : List ℕ) (k0 k1 ν : ℕ) (lo : 1 ≤ m) (hi : m ≤ mo
   clean = put (cleared t) 0 (root m)
 
   root-good : Good m (root m)
-  root-good = direct-good m hi lo (omega arith) (omega arith) (omega arith) (omega arith) (omega arith) refl
+  root-good = direct-good m lo (omega arith) (direct-storable m hi (omega arith) (omega arith) (omega arith) (omega arith) (omega arith)) refl
 
   there : at clean 0 ≡ root m
   there = at-same (cleared t) 0 (root m) (root-good .storable) (omega (arith, size-cleared t))

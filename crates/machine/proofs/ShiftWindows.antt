@@ -17,7 +17,7 @@ use Rattle.tokens.specs.Token.{named}
 use Rattle.machine.specs.Demand3.{Accepted}
 use Rattle.machine.specs.Operations.{Grant, grant, numberOf}
 use Rattle.machine.specs.Parts.{State}
-use Rattle.machine.specs.Requests.{access, clone, create, derive, dump, executeOnly, load, lock, merge, noShift, release, Request, reset, revoke, Shift, unlock}
+use Rattle.machine.specs.Requests.{access, clone, create, derive, dump, executeOnly, load, lock, merge, noShift, pageIn, pageOut, release, Request, reset, revoke, Shift, unlock}
 use Rattle.machine.specs.ShiftWindows.{accesses, InShifts, AsBefore, before, bringing, dumps, Leaseless, loads, Shut, Unsound, Windows, Within}
 use Rattle.machine.specs.Steps.{answer, decide, Machine, pass, settle, step, stop, Verdict, verdict}
 use Rattle.machine.specs.Stops.{atRequest, Check, checks, inOrder, leased, leasesSound, needAll, noncesLeft, Places, Refusal, refusalNumber, shiftFits, sizes, unleased, windowOpen}
@@ -248,5 +248,7 @@ as-before = record { decided = λ m s t q b. by m s t b q; blind = λ m s t a b.
     by m s t b (lock k u) h = refl
     by m s t b (unlock k u) h = refl
     by m s t b (revoke k c) h = refl
+    by m s t b (pageOut k u f c) h = refl
+    by m s t b (pageIn j k u c) h = refl
     by m s t b (load k u φ) h = let a = loads {k = k} {u = u} {φ = φ} {ψ = noShift} in let n = h _ _ _ a in through m s t a b (held-none φ k (n .0) (n .1))
     by m s t b (dump k u φ) h = let a = dumps {k = k} {u = u} {φ = φ} {ψ = noShift} in let n = h _ _ _ a in through m s t a b (held-none φ k (n .0) (n .1))

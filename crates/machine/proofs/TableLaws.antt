@@ -10,16 +10,16 @@ use native.Mathlib.Decide.{decLt}
 use lib.ListN.{length, take, drop, replicate, length-replicate, getD-replicate, length-drop, length-take, take-append-drop}
 use lib.Seq.{sets, sets-eq, length-sets, drop-drop}
 use borrow.Author.Tests.{lt-ltb, le-ltb}
-use Rattle.layout.specs.Entry.{entryAt, entryBytes, entryNumber, free, freed, isFree, Storable}
+use Rattle.layout.specs.Entry.{entryAt, entryBytes, entryNumber, entryOf, free, freed, isFree, Storable, typeOf}
 use Rattle.layout.specs.Form.{illFormed}
 use Rattle.layout.specs.declared.entry.Entry.{Entry}
 use Rattle.bits.proofs.ByteLaws.{length-bytes}
-use Rattle.layout.proofs.EntryLaws.{read-small}
-use Rattle.layout.proofs.FormLaws.{free-back, well-formed-back, written-read}
+use Rattle.layout.proofs.EntryLaws.{read-small, read-storable, shared-as}
+use Rattle.layout.proofs.FormLaws.{free-back, laid, well-formed-back, written-read}
 use Rattle.machine.specs.Issuing.{lastHeld}
 use Rattle.machine.specs.Parts.{at, cleared, put, size}
 use Rattle.machine.specs.Writes.{vacated}
-use Rattle.bits.specs.Bytes.{AllBytes}
+use Rattle.bits.specs.Bytes.{AllBytes, number}
 use Rattle.bits.proofs.ByteLists.{bytes-drop, bytes-sets, bytes-take, bytes-zeros}
 use Rattle.machine.proofs.ByteLaws.{bytes-fit, entry-bytes}
 use Rattle.machine.proofs.SliceLaws.{all-zeros, slice-agree, slice-same, sets-other}
@@ -84,6 +84,15 @@ in-table t n h = go (decLt n (size t))
     go : Dec (n < size t) → n < size t
     go (yes i) = i
     go (no i) = absurd (h (ap (λ (e : Entry). e .kind) (at-out t n (omega arith))))
+
+-- one that is well-formed can be packed with nothing lost
+pub at-storable : (m : ℕ) (t : List ℕ) (n : ℕ) → at t n .kind ≢ 0 → illFormed m (at t n) ≡ false → Storable (at t n)
+unfolding entryOf
+at-storable m t n f h =
+    let x : ℕ = number 32 (take 32 (drop (32 * n) t)) in
+    let r : at t n ≡ entryOf x = at-in t n (in-table t n f) in
+    let k : at t n .kind ≡ typeOf x = ap (λ (e : Entry). e .kind) r ∙ ap (λ (e : Entry). e .kind) (shared-as (typeOf x) x) in
+    rw r (read-storable x (rw (← k) (laid m (at t n) f h)))
 
 -- ---- an entry that is freed
 

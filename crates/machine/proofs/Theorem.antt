@@ -3,32 +3,30 @@
 use mathlib.Core.Path.{_≡_, refl, sym, ap, ap₂, subst, _∙_}
 use mathlib.Core.Logic.{_≢_}
 use mathlib.Core.Bool.{true}
-use mathlib.Core.List.{List, [], _∷_, _++_, append-assoc, List·Memᴰ}
-use Prim.Native.Nat.{ℕ, suc, _+_, _≤_, _<_}
+use mathlib.Core.List.{List, [], _∷_, _++_}
+use Prim.Native.Nat.{ℕ, _+_, _≤_, _<_}
 use native.Mathlib.Omega.{arith}
 use native.Mathlib.Decide.{decLe, decLt}
 use lib.ListN.{drop, getD, length, replicate, take}
 use lib.Seq.{ext-getD}
 use borrow.Author.Tests.{eqb-true, leb-true}
-use Rattle.tokens.specs.Token.{named}
 use Rattle.layout.specs.declared.entry.Entry.{Entry}
-use Rattle.machine.specs.Demand3.{above, Accepted, Alike, Closed, Demand3, In, IsReset, issuedIn, itself, LockedFor, NoneCarries, NoReset, Owns, resetCall, Returns, Revokes, revokes, Under, Unreset, Unrevoked}
+use Rattle.machine.specs.Demand3.{Accepted, Alike, Demand3, In, IsReset, LockedFor, NoneCarries, NoReset, resetCall, Revokes, revokes, Under, Unreset, Unrevoked}
 use Rattle.machine.specs.Issuing.{issue, otherNonce}
-use Rattle.machine.specs.Line.{lineOf, ownerOf, parentNumber}
 use Rattle.machine.specs.Operations.{carried, Decision, fresh, grant, grantRevoke, numberOf, store}
 use Rattle.machine.specs.Parts.{at, put, spent}
-use Rattle.machine.specs.Requests.{access, Call, lock, Request, taskOf}
+use Rattle.machine.specs.Requests.{Call, Request, taskOf}
 use Rattle.machine.specs.Steps.{answer, answers, bufferAfter, decide, decision, Machine, memoryAfter, run, step}
 use Rattle.machine.specs.Stops.{checks}
-use Rattle.machine.specs.Writes.{Name, nameOf}
-use Rattle.machine.proofs.Basics.{Link, link, neqb-true, owner-direct, owner-unique, parent, range}
+use Rattle.machine.specs.Writes.{Name}
+use Rattle.machine.proofs.Basics.{direct-present, range}
 use Rattle.machine.proofs.Decided.{accepted, away, Passed, taken, Turned, turned}
 use Rattle.machine.proofs.Deeds.{revoked-good}
 use Rattle.machine.proofs.Effects.{buffer-agree, memory-agree, memory-long, memory-other, zeros}
-use Rattle.machine.proofs.Fates.{core, Deed, Fate, gone, issued, kept, linked-same, Shut, shut-stays, spares, Touches}
-use Rattle.machine.proofs.Fuel.{Live, other-least, walk-owns}
-use Rattle.machine.proofs.LastToken.{given-held, returns, root-held}
-use Rattle.machine.proofs.Runs.{deed-of, none-append, none-granted, none-split, NotReset, run-append, run-new, run-old, run-up, run-well, step-up, step-well, Well, well-reset}
+use Rattle.machine.proofs.Fates.{core, Deed, Fate, gone, issued, kept, Shut, shut-stays, spares, Touches}
+use Rattle.machine.proofs.Fuel.{other-least}
+use Rattle.machine.proofs.Revocation.{above, shut-closes}
+use Rattle.machine.proofs.Runs.{deed-of, none-append, none-granted, NotReset, run-append, run-well, step-well, Well, well-reset}
 use Rattle.machine.proofs.SliceLaws.{all-zeros}
 use Rattle.machine.proofs.TableLaws.{at-same, in-table}
 use Rattle.machine.proofs.Written.{Good}
@@ -119,126 +117,6 @@ revoke-nonce σ s r inv w =
     let good : Good (length (σ .memory)) e = revoked-good (length (σ .memory)) (σ .state) (σ .table) inv s (w .direct) (w .left) in
     let new : at (put (σ .table) s e) s ≡ e = at-same (σ .table) s e (good .storable) (in-table (σ .table) s (omega (arith, w .direct))) in
     rw (w .done, new) up
-
--- a walk whose first nonce is old was the same walk then
-owns-old : (σ : Machine) (qs : List Call) → Well σ → Unreset σ qs → {n k : ℕ} → Owns (run σ qs .table) n k → at (run σ qs .table) n .nonce < σ .state .next
-    → Owns (σ .table) n k × (at (run σ qs .table) k .nonce < σ .state .next)
-owns-old σ qs inv nr (itself {n = n} k) h =
-    let e : core (at (run σ qs .table) n) ≡ core (at (σ .table) n) = run-old σ qs inv nr n (omega arith) h in
-    (itself (subst (λ (x : Entry). x .kind ≡ 1) e k), h)
-owns-old σ qs inv nr (above {n = n} {m = i} l o) h =
-    let u : List ℕ = run σ qs .table in
-    let k : Link (at u n) (parent u n) = link (at u n) (parent u n) (l .holds) in
-    let e : core (at u n) ≡ core (at (σ .table) n) = run-old σ qs inv nr n (omega (arith, l .indirect)) h in
-    let up : parent u n .nonce < σ .state .next = omega arith in
-    let f : core (parent u n) ≡ core (at (σ .table) (parentNumber (at u n))) = run-old σ qs inv nr (parentNumber (at u n)) (k .full) up in
-    let ih = owns-old σ qs inv nr o up in
-    (above (linked-same (σ .table) u n e f l) (subst (λ (x : Entry). Owns (σ .table) (parentNumber x) i) e (ih .0)), ih .1)
-
--- The revocation half. ρ is what reset left; A stands where the token was given, B before the revoke, C after it, D at the end.
-module _ (ρ : Machine) (inv₀ : Well ρ) (after qs : List Call) (nr : Unreset ρ (after ++ qs)) (s t : ℕ) (lk : LockedFor (run ρ after) s t) (n : NoneCarries t qs)
-    (un : Unrevoked (run ρ after) qs s) (r : Call) (v : Revokes (r .request) s) (acc : Accepted (run ρ (after ++ qs)) r) (zs : List Call) (nz : Unreset (step (run ρ (after ++ qs)) r) zs)
-    (a b : List Call) (ab : a ++ b ≡ after ++ qs) (k : Name) (u : Under (run ρ a .table) (at (run ρ after .table) s) k)
-    (has : at (run ρ a .table) (k .number) .tag ≡ k .tag) (fr : Returns (run ρ a) (b ++ (r ∷ zs)) k → ⊥) where
-  abbrev A : Machine
-  A = run ρ a
-
-  abbrev B : Machine
-  B = run ρ (after ++ qs)
-
-  abbrev C : Machine
-  C = step B r
-
-  abbrev D : Machine
-  D = run C zs
-
-  none-ab : Unreset ρ a × Unreset A b
-  none-ab = none-split ρ a b (subst (λ l. Unreset ρ l) (sym ab) nr)
-
-  none-r : NotReset B r
-  none-r i x = no-reset v i
-
-  A-inv : Well A
-  A-inv = run-well ρ a inv₀ (none-ab .0)
-
-  B-inv : Well B
-  B-inv = run-well ρ (after ++ qs) inv₀ nr
-
-  C-inv : Well C
-  C-inv = step-well B r B-inv none-r
-
-  -- B is a run from A, D a run from A, from B and from C
-  A→B : run A b ≡ B
-  A→B = sym (run-append ρ a b) ∙ ap (λ l. run ρ l) ab
-
-  none-on : Unreset A (b ++ (r ∷ zs))
-  none-on = none-append A b (r ∷ zs) (none-ab .1) (subst (λ (σ : Machine). Unreset σ (r ∷ zs)) (sym A→B) (none-r, nz))
-
-  A→D : run A (b ++ (r ∷ zs)) ≡ D
-  A→D = run-append A b (r ∷ zs) ∙ ap (λ σ. run (step σ r) zs) A→B
-
-  A-up-B : A .state .next ≤ B .state .next
-  A-up-B = subst (λ (σ : Machine). A .state .next ≤ σ .state .next) A→B (run-up A b A-inv (none-ab .1))
-
-  B-held : Held (run ρ after) B s t
-  B-held =
-      let parts = none-split ρ after qs nr in
-      subst (λ (σ : Machine). Held (run ρ after) σ s t) (sym (run-append ρ after qs)) (lock-run (run ρ after) s t qs (run-well ρ after inv₀ (parts .0)) (parts .1) lk n un)
-
-  -- an entry of D that is older than A is the same in A, in B and in C
-  same-A : (i : ℕ) → at (D .table) i .kind ≢ 0 → at (D .table) i .nonce < A .state .next → core (at (D .table) i) ≡ core (at (A .table) i)
-  same-A = subst (λ (σ : Machine). (i : ℕ) → at (σ .table) i .kind ≢ 0 → at (σ .table) i .nonce < A .state .next → core (at (σ .table) i) ≡ core (at (A .table) i)) A→D (run-old A (b ++ (r ∷ zs)) A-inv none-on)
-
-  same-B : (i : ℕ) → at (D .table) i .kind ≢ 0 → at (D .table) i .nonce < B .state .next → core (at (D .table) i) ≡ core (at (B .table) i)
-  same-B = run-old B (r ∷ zs) B-inv (none-r, nz)
-
-  same-C : (i : ℕ) → at (D .table) i .kind ≢ 0 → at (D .table) i .nonce < C .state .next → core (at (D .table) i) ≡ core (at (C .table) i)
-  same-C = run-old C zs C-inv nz
-
-  -- the token's entry has not been issued since
-  young : at (D .table) (k .number) .kind ≢ 0 → at (D .table) (k .number) .tag ≡ k .tag → at (D .table) (k .number) .nonce < A .state .next
-  young f g = go (decLt (at (D .table) (k .number) .nonce) (A .state .next))
-    where
-      new : at (D .table) (k .number) .kind ≢ 0 → A .state .next ≤ at (D .table) (k .number) .nonce → List·Memᴰ (nameOf (k .number) (at (D .table) (k .number))) (issuedIn A (b ++ (r ∷ zs)))
-      new =
-          subst (λ (σ : Machine). at (σ .table) (k .number) .kind ≢ 0 → A .state .next ≤ at (σ .table) (k .number) .nonce → List·Memᴰ (nameOf (k .number) (at (σ .table) (k .number))) (issuedIn A (b ++ (r ∷ zs)))) A→D
-          (run-new A (b ++ (r ∷ zs)) A-inv none-on (k .number))
-
-      go : Dec (at (D .table) (k .number) .nonce < A .state .next) → at (D .table) (k .number) .nonce < A .state .next
-      go (yes i) = i
-      go (no i) = absurd (fr (returns A (b ++ (r ∷ zs)) k A-inv none-on has (subst (λ (x : ℕ). List·Memᴰ (record { number = k .number; tag = x }) (issuedIn A (b ++ (r ∷ zs)))) g (new f (omega arith)))))
-
-  -- were its line live, its owner would be s as it was before the revoke
-  not-live : {i : ℕ} → Owns (D .table) (k .number) i → at (D .table) (k .number) .nonce < A .state .next → ⊥
-  not-live {i} o y =
-      let was : Owns (A .table) (k .number) i × (at (D .table) i .nonce < A .state .next) =
-      subst (λ (σ : Machine). Owns (σ .table) (k .number) i → at (σ .table) (k .number) .nonce < A .state .next → Owns (A .table) (k .number) i × (at (σ .table) i .nonce < A .state .next)) A→D
-      (owns-old A (b ++ (r ∷ zs)) A-inv none-on {n = k .number} {k = i}) o y in
-      let one : at (D .table) i .kind ≡ 1 = owner-direct o in
-      let e : i ≡ u .owner = owner-unique (was .0) (u .owns) in
-      let toA : core (at (D .table) i) ≡ core (at (A .table) i) = same-A i (omega arith) (was .1) in
-      let toB : core (at (D .table) i) ≡ core (at (B .table) i) = same-B i (omega arith) (omega (arith, A-up-B)) in
-      let toC : core (at (D .table) i) ≡ core (at (C .table) i) = same-C i (omega arith) (omega (arith, A-up-B, step-up B r B-inv none-r)) in
-      let his-A : In (at (A .table) i) (u .byte) = rw e (u .theirs) in
-      let his-B : In (at (B .table) i) (u .byte) = subst (λ (x : Entry). In x (u .byte)) (sym toA ∙ toB) his-A in
-      let ours-B : In (at (B .table) s) (u .byte) = subst (λ (x : Entry). In x (u .byte)) (sym (B-held .same)) (u .ours) in
-      let f : i ≡ s = B-inv .tiled i s (u .byte) (record { direct = subst (λ (x : Entry). x .kind ≡ 1) toB one; inside = his-B }) (record { direct = B-held .lock .direct; inside = ours-B }) in
-      let z : B .state .next ≤ at (C .table) i .nonce = rw f (revoke-nonce B s r B-inv (wipe B s r v acc)) in
-      omega (arith, z, A-up-B, was .1, ap (λ (x : Entry). x .nonce) toC)
-
-  still-open : (i : ℕ) → i ≡ k .number → at (D .table) i .kind ≢ 0 → at (D .table) i .tag ≡ k .tag → Live (lineOf (length (D .memory)) (D .table) i) → ⊥
-  still-open i e f g l =
-      not-live (subst (λ (j : ℕ). Owns (D .table) j (ownerOf (lineOf (length (D .memory)) (D .table) i))) e (walk-owns (suc (at (D .table) i .nonce)) (length (D .memory)) (D .table) i f l))
-      (young (subst (λ (j : ℕ). at (D .table) j .kind ≢ 0) e f) (subst (λ (j : ℕ). at (D .table) j .tag ≡ k .tag) e g))
-
-  shut-off : Closed D k
-  shut-off w token task shift buffer en et ok =
-      let q : Call = record { request = access w token task shift; buffer = buffer } in
-      let p = accepted D q ok .0 in
-      still-open (numberOf token) en
-      (neqb-true (at (D .table) (numberOf token) .kind) 0 (search))
-      (eqb-true (at (D .table) (numberOf token) .tag) (named token .tag) (search) ∙ et)
-      (search, search)
 
 -- ---- secrecy
 
@@ -338,7 +216,7 @@ module _ (e : Entry) (s t : ℕ) (τ₁ τ₂ : Machine) (tw : Twin e s t τ₁ 
     wipe-zeros : take (e .length) (drop (e .base) (step τ₁ q .memory)) ≡ replicate (e .length) 0
     unfolding step
     wipe-zeros =
-        let whole = range (length (τ₁ .memory)) (at (τ₁ .table) s) (omega (arith, wp .direct)) (tw .inv .good s .formed) in
+        let whole = range (length (τ₁ .memory)) (at (τ₁ .table) s) (direct-present _ (wp .direct)) (tw .inv .good s .formed) in
         let fit : e .base + e .length ≤ length (τ₁ .memory) = subst (λ (x : Entry). x .base + x .length ≤ length (τ₁ .memory)) (tw .same) (whole .1) in
         all-zeros (memoryAfter (decision τ₁ q .effect) (τ₁ .memory)) (e .base) (e .length) (omega (arith, memory-long (decision τ₁ q .effect) (τ₁ .memory)))
         (λ x i j. zero-inside (τ₁ .memory) x (i, j))
@@ -433,38 +311,9 @@ twins σ s t τ₁ τ₂ inv lk a b =
       inv = rw (a .long, a .state, a .table) at inv;
     }
 
--- what was given by a request of the whole list, the reset in front, was given in a run from what reset left
-record From (σ : Machine) (first : Call) (l a : List Call) (q : Call) (b : List Call) : Type 0 where
-  way : List Call
-  comes : run (step σ first) way ≡ step (run σ a) q
-  all : way ++ b ≡ l
-
-from : (σ : Machine) (first : Call) (l a : List Call) (q : Call) (b : List Call) → a ++ (q ∷ b) ≡ first ∷ l → From σ first l a q b
-from σ first l [] q b e =
-    let head : q ≡ first = cc in
-    record { way = []; comes = ap (λ (x : Call). step σ x) (sym head); all = cc }
-from σ first l (c ∷ a) q b e =
-    let head : c ≡ first = cc in
-    let tail : a ++ (q ∷ b) ≡ l = cc in
-    record {
-      way = a ++ (q ∷ []);
-      comes = run-append (step σ first) a (q ∷ []) ∙ ap (λ (x : Call). step (run (step σ x) a) q) (sym head);
-      all = append-assoc a (q ∷ []) b ∙ tail;
-    }
-
--- and its number holds it then
-holding : (σ : Machine) (k0 k1 ν : ℕ) (buffer : List ℕ) (l a : List Call) (q : Call) (b : List Call) (k : Name) → Accepted σ (resetCall k0 k1 ν buffer) → Unreset (step σ (resetCall k0 k1 ν buffer)) l
-    → a ++ (q ∷ b) ≡ resetCall k0 k1 ν buffer ∷ l → List·Memᴰ k (decision (run σ a) q .issued) → at (step (run σ a) q .table) (k .number) .tag ≡ k .tag
-holding σ k0 k1 ν buffer l [] q b k ok nr e m =
-    let head : resetCall k0 k1 ν buffer ≡ q = cc in
-    subst (λ (x : Call). List·Memᴰ k (decision σ x .issued) → at (step σ x .table) (k .number) .tag ≡ k .tag) head (root-held σ k0 k1 ν buffer k ok) m
-holding σ k0 k1 ν buffer l (c ∷ a) q b k ok nr e m =
-    let head : resetCall k0 k1 ν buffer ≡ c = cc in
-    let tail : l ≡ a ++ (q ∷ b) = cc in
-    let ρ : Machine = step σ (resetCall k0 k1 ν buffer) in
-    let both = none-split ρ a (q ∷ b) (subst (λ (x : List Call). Unreset ρ x) tail nr) in
-    subst (λ (x : Call). List·Memᴰ k (decision (run (step σ x) a) q .issued) → at (step (run (step σ x) a) q .table) (k .number) .tag ≡ k .tag) head
-    (given-held (run ρ a) q k (run-well ρ a (well-reset σ k0 k1 ν buffer ok) (both .0)) (both .1 .0)) m
+-- under an entry and under one with the same core is the same
+under-same : {t : List ℕ} {d e : Entry} {k : Name} → core d ≡ core e → Under t e k → Under t d k
+under-same s u = record { owner = u .owner; owns = u .owns; byte = u .byte; theirs = u .theirs; ours = subst (λ (x : Entry). In x (u .byte)) (sym s) (u .ours) }
 
 pub demand3 : Demand3
 unfolding Demand3
@@ -479,10 +328,11 @@ demand3 σ k0 k1 ν buffer ok after nr s t lk τ₁ τ₂ a b qs nq nc =
           let there : run ρ (after ++ qs) ≡ run (run ρ after) qs = run-append ρ after qs in
           let acc : Accepted (run ρ (after ++ qs)) r = rw there (accepted-same e (run τ₁ qs) (run (run ρ after) qs) r (tr .alike) (f .accepted)) in
           let one : step (run τ₁ qs) r ≡ step (run ρ (after ++ qs)) r = rw there (wipe-equal e s t (run τ₁ qs) (run (run ρ after) qs) tr r (f .names) (f .accepted)) in
-          let w : From σ first (after ++ qs) x q y = from σ first (after ++ qs) x q y xy in
+          let held : Held (run ρ after) (run ρ (after ++ qs)) s t = rw there (lock-run (run ρ after) s t qs inv (none-granted (run ρ after) qs nq) lk nc (unrevoked-same e s t τ₁ (run ρ after) qs ts nq nc (f .before))) in
+          let all : Unreset ρ (after ++ qs) = none-append ρ after qs nr (none-granted (run ρ after) qs nq) in
           rw one
-          (shut-off ρ inv₀ after qs (none-append ρ after qs nr (none-granted (run ρ after) qs nq)) s t lk nc (unrevoked-same e s t τ₁ (run ρ after) qs ts nq nc (f .before)) r (f .names) acc zs (subst (λ (x : Machine). Unreset x zs) one nz)
-          (w .way) y (w .all) k (rw (w .comes) u) (rw (w .comes) (holding σ k0 k1 ν buffer (after ++ qs) x q y k ok (none-append ρ after qs nr (none-granted (run ρ after) qs nq)) xy given)) (rw (w .comes) fr));
+          (shut-closes σ k0 k1 ν buffer ok (after ++ qs) all r (λ i a. no-reset (f .names) i) zs (subst (λ (x : Machine). Unreset x zs) one nz) x q y xy k given
+          (above s (held .lock .direct) (λ d. revoke-nonce (run ρ (after ++ qs)) s r (run-well ρ (after ++ qs) inv₀ all) (wipe (run ρ (after ++ qs)) s r (f .names) acc)) (under-same (held .same) u)) fr);
     }
   where
     first : Call

@@ -20,7 +20,7 @@ use Rattle.machine.specs.Demand3.{Accepted}
 use Rattle.machine.specs.FromReset.{Sound}
 use Rattle.machine.specs.Given.{nameIn}
 use Rattle.machine.specs.Issuing.{issue, newNumber, otherNonce}
-use Rattle.machine.specs.Line.{dead, ill, Line, linked, lineOf, lockedFrom, owner, ownerOf, parentNumber, walk}
+use Rattle.machine.specs.Line.{dead, ill, isPaged, Line, linked, lineOf, lockedFrom, owner, ownerOf, pagedOut, parentNumber, walk}
 use Rattle.machine.specs.Operations.{childOf, Grant, grant, namedEntry, numberOf}
 use Rattle.machine.specs.Parts.{at, mostEntries, mostFree, mostMemory, moved, put, size, spent, State}
 use Rattle.machine.specs.Requests.{access, Call, derive, rightOf, Shift, Way}
@@ -30,10 +30,11 @@ use Rattle.machine.specs.Steps.{answer, decide, Machine, pass, settle, s
 use Rattle.machine.specs.Stops.{atRequest, Check, checks, needAll, noncesLeft, places, refusalNumber, settings, shiftFits, sizes, taskFits, transferFits}
 use Rattle.machine.specs.WholeDerive.{accessCall, AsExecuteOnly, Bounds, deriveCall, lengthOf, Parts, PassedOn, Whole}
 use Rattle.machine.specs.Writes.{Name, nameOf, oneLess, tokenFor}
-use Rattle.machine.proofs.Basics.{link, neqb-true, owner-direct, parent, range}
+use Rattle.machine.proofs.Basics.{link, neqb-true, owner-direct, parent, present, Present, range}
 use Rattle.machine.proofs.Choices.{by-both, by-cond}
-use Rattle.machine.proofs.Decided.{accepted, AllTrue, andThen, need-all, Passed, passed-join, passed-split, passing, sizes-passed, true-join, verdict-append}
+use Rattle.machine.proofs.Decided.{accepted, AllTrue, but-nonces, judged, need-all, Passed, passed, passed-join, passed-split, passing, sizes-passed, true-join}
 use Rattle.machine.proofs.Fuel.{line-enough, Live, number-first, other-least, walk-owns}
+use Rattle.machine.proofs.Grants.{either}
 use Rattle.machine.proofs.ShiftWindows.{Held, within-held}
 use Rattle.machine.proofs.TableLaws.{at-other, at-same, in-table, length-put, size-put}
 use Rattle.machine.proofs.WriteLaws.{names}
@@ -91,26 +92,18 @@ module _ (σ : Machine) (k p c : ℕ) (b : List ℕ) where
   abbrev m₀ : ℕ
   m₀ = length (σ .memory)
 
-  -- the checks of a derive but for place 11, and what place 11 asks
-  abbrev judged : (o l : ℕ) → List Check
-  judged o l = let q = places m₀ (σ .state) (σ .table) (derive k o l p c) b in needAll atRequest (sizes m₀ (σ .table) ++ q .request) ++ ((q .after ++ q .tokens) ++ q .rest)
-
-  abbrev nonces : (o l : ℕ) → Check
-  nonces o l = noncesLeft (σ .state) (σ .table) (grant m₀ (σ .table) (derive k o l p c) b)
+  -- the checks of a derive but for place 11
+  abbrev asked-of : (o l : ℕ) → List Check
+  asked-of o l = judged m₀ (σ .state) (σ .table) (derive k o l p c) b
 
   parts-granted : (o l : ℕ) → Accepted σ (deriveCall k o l p c b) → (o′ l′ : ℕ) → l′ ≢ 0 → l′ + o′ ≤ long
       → answer σ (deriveCall k o′ l′ p c b) .reply .refusal ≢ 11 → Accepted σ (deriveCall k o′ l′ p c b)
-  unfolding answer decide
-  parts-granted o l ok o′ l′ some ends =
+  parts-granted o l ok o′ l′ some ends other =
       let a : Passed (checks m₀ (σ .state) (σ .table) (derive k o l p c) b) = accepted σ (deriveCall k o l p c b) ok .0 in
-      let front : verdict (judged o′ l′) ≡ verdict (judged o l) =
+      let same : verdict (asked-of o′ l′) ≡ verdict (asked-of o l) =
       rw (ne-eqb l 0 (neqb-true l 0 (search)), ne-eqb l′ 0 some, le-leb (l + o) long (leb-true (l + o) long (search)), le-leb (l′ + o′) long ends) in
-      let passes : verdict (judged o′ l′) ≡ pass = front ∙ passing (judged o l) (passed-split (judged o l) (nonces o l ∷ []) a .0) in
-      let last : verdict (judged o′ l′ ++ (nonces o′ l′ ∷ [])) ≡ verdict (nonces o′ l′ ∷ []) = verdict-append (judged o′ l′) (nonces o′ l′ ∷ []) ∙ ap (λ (v : Verdict). andThen v (verdict (nonces o′ l′ ∷ []))) passes in
-      rw last (by-cond (λ (v : Verdict). told v ≢ 11 → told v ≡ 0) (nonces o′ l′ .holds) (λ e h. refl) (λ e h. absurd (h refl)))
-    where
-      told : Verdict → ℕ
-      told v = settle v (σ .state) (σ .table) (grant m₀ (σ .table) (derive k o′ l′ p c) b) .reply .refusal
+      let passes : Passed (asked-of o′ l′) = passed (asked-of o′ l′) (same ∙ passing (asked-of o l) (passed-split (asked-of o l) (noncesLeft (σ .state) (σ .table) (grant m₀ (σ .table) (derive k o l p c) b) ∷ []) a .0)) in
+      either (λ e. e) (λ e. absurd (other e)) (but-nonces σ (deriveCall k o′ l′ p c b) passes)
 
 pub parts : Parts
 unfolding Parts
@@ -150,6 +143,9 @@ module _ (σ : Machine) (fine : Sound σ) (k p c : ℕ) (b : List ℕ) (ok : Acc
   full : e .kind ≢ 0
   full = let a : Passed (checks m s t (derive k 0 (e .length) p c) b) = all in neqb-true (e .kind) 0 (search)
 
+  stands : Present e
+  stands = let a : Passed (checks m s t (derive k 0 (e .length) p c) b) = all in present e (search) (search)
+
   first : FirstFree t (s .last) (size t - 1) new
   first = let a : Passed (checks m s t (derive k 0 (e .length) p c) b) = all in number-first s t (neqb-true new 0 (search))
 
@@ -167,7 +163,7 @@ module _ (σ : Machine) (fine : Sound σ) (k p c : ℕ) (b : List ℕ) (ok : Acc
   not-below = other-least s t new (childOf n e 0 (e .length) p)
 
   good : Good m e
-  good = record { storable = fine .storable n full; formed = fine .formed n full; lockable = fine .lockable n; counted = fine .counted n }
+  good = record { storable = fine .storable n full; formed = fine .formed n full; lockable = fine .lockable n; pagedLockable = fine .pagedLockable n; counted = fine .counted n }
 
   low : n < 1024
   low = omega (arith, in-table t n full, most)
@@ -178,7 +174,7 @@ module _ (σ : Machine) (fine : Sound σ) (k p c : ℕ) (b : List ℕ) (ok : Acc
   child-good : Good m child
   child-good =
       let a : Passed (checks m s t (derive k 0 (e .length) p c) b) = all in
-      let r = range m e full (good .formed) in
+      let r = range m e stands (good .formed) in
       issue-indirect m s new n (leb-true m mostMemory (search)) good low (r .0) (omega (arith, r .1)) (omega (arith, leb-true p 7 (search))) (omega (arith, left-nonce))
 
   abbrev counted : Entry
@@ -187,7 +183,7 @@ module _ (σ : Machine) (fine : Sound σ) (k p c : ℕ) (b : List ℕ) (ok : Acc
   counted-good : Good m counted
   counted-good =
       let a : Passed (checks m s t (derive k 0 (e .length) p c) b) = all in
-      recount-good m good full (omega (arith, ltb-true (e .count) 65535 (search))) (λ i. omega arith)
+      recount-good m good stands (omega (arith, ltb-true (e .count) 65535 (search))) (λ i. omega arith)
 
   abbrev t′ : List ℕ
   t′ = put (put t new child) n counted
@@ -212,12 +208,13 @@ module _ (σ : Machine) (fine : Sound σ) (k p c : ℕ) (b : List ℕ) (ok : Acc
       rw (r .1, recount-formed m (at t j) (r .0))
       (by-both Same (illFormed m (at t j)) (λ i l. absurd (false≢true (l .0)))
       (λ i. by-both Same (eqb (at t j .kind) 1) (λ d l. refl)
-      (λ d. by-cond (λ (y : Line). Same (cond (linked t′ (recounted (at t j) (r .0))) (walk f m t′ (parentNumber (at t j))) (dead j)) y) (linked t (at t j))
+      (λ d. by-both Same (isPaged (at t j)) (λ g l. refl)
+      (λ g. by-cond (λ (y : Line). Same (cond (linked t′ (recounted (at t j) (r .0))) (walk f m t′ (parentNumber (at t j))) (dead j)) y) (linked t (at t j))
       (λ i l.
-      let up = recounted-there (parentNumber (at t j)) (link (at t j) (parent t j) i .full) in
+      let up = recounted-there (parentNumber (at t j)) (link (at t j) (parent t j) i .present .full) in
       let same : linked t′ (recounted (at t j) (r .0)) ≡ true = rw (up .1) i in
-      rw same (same-up f (parentNumber (at t j)) (link (at t j) (parent t j) i .full) l))
-      (λ i l. absurd (false≢true (l .1))))))
+      rw same (same-up f (parentNumber (at t j)) (link (at t j) (parent t j) i .present .full) l))
+      (λ i l. absurd (false≢true (l .1)))))))
     where
       Same : Line → Line → Type 0
       Same x y = Live y → x ≡ y
@@ -228,7 +225,7 @@ module _ (σ : Machine) (fine : Sound σ) (k p c : ℕ) (b : List ℕ) (ok : Acc
 
   linked-above : linked t′ child ≡ true
   linked-above =
-      rw (number-above, recounted-there n full .1, ne-eqb (e .kind) 0 full, parent-tagged m n e good low, eq-eqb (e .tag) (e .tag) refl, lt-ltb (e .nonce) ν (omega (arith, not-below, fine .below n full)))
+      rw (number-above, recounted-there n full .1, ne-eqb (e .kind) 0 full, ne-eqb (e .kind) 3 (stands .here), parent-tagged m n e good low, eq-eqb (e .tag) (e .tag) refl, lt-ltb (e .nonce) ν (omega (arith, not-below, fine .below n full)))
 
   same-parent : Live (lineOf m t n) → lineOf m t′ n ≡ lineOf m t n
   same-parent l = ap (λ (x : Entry). walk (suc (x .nonce)) m t′ n) (recounted-there n full .1) ∙ same-up (suc (e .nonce)) n full l
@@ -240,6 +237,7 @@ module _ (σ : Machine) (fine : Sound σ) (k p c : ℕ) (b : List ℕ) (ok : Acc
   -- and its lock too
   same-lock : (l : Line) (u : ℕ) → at t (ownerOf l) .kind ≢ 0 → Live l → lockedFrom t′ u l ≡ lockedFrom t u l
   same-lock (owner o) u f l = ap (λ (z : Entry). z .locked && not (eqb (z .holder) u)) (recounted-there o f .1)
+  same-lock (pagedOut o) u f l = refl
   same-lock (dead o) u f l = absurd (false≢true (l .1))
   same-lock (ill o) u f l = absurd (false≢true (l .0))
 
@@ -299,10 +297,10 @@ module _ (σ : Machine) (fine : Sound σ) (k p c : ℕ) (b : List ℕ) (ok : Acc
     found =
         let h : Passed (checks m s t (access w y u ψ) d) = through in
         let live : Live (lineOf m t n) = rw (← at-y) (search, search) in
-        let owned : at t (ownerOf (lineOf m t n)) .kind ≢ 0 = λ z. omega (arith, owner-direct (walk-owns (suc (e .nonce)) m t n full live)) in
+        let owned : at t (ownerOf (lineOf m t n)) .kind ≢ 0 = λ z. omega (arith, owner-direct (walk-owns (suc (e .nonce)) m t n stands live)) in
         let line : lineOf m t′ (numberOf x) ≡ lineOf m t n = rw at-x (same-line live) in
         let open′ : not (lockedFrom t u (lineOf m t n)) ≡ true = rw (← at-y) (search) in
-        let ends : leb (named y .offset + length d) (e .length) ≡ true = rw (← at-y) (search) in (shift .sound, (rw (at-x, size-put, size-put) (lt-ltb new (size t) (first .inside)), (rw (at-x, there), (rw (at-x, there, tag-x) (eq-eqb (child .tag) (child .tag) refl), (rw line (live .0), (rw line (live .1), (rw (line, same-lock (lineOf m t n) u owned live) open′, (shift .opened, (rw (at-x, there) allowed, (rw (at-x, there, ox) ends, (le-leb (ν + 1) spent left-nonce, tt)))))))))))
+        let ends : leb (named y .offset + length d) (e .length) ≡ true = rw (← at-y) (search) in (shift .sound, (rw (at-x, size-put, size-put) (lt-ltb new (size t) (first .inside)), (rw (at-x, there), (rw (at-x, there, tag-x) (eq-eqb (child .tag) (child .tag) refl), (rw (at-x, there), (rw line (live .0), (rw line (live .1), (rw (line, same-lock (lineOf m t n) u owned live) open′, (shift .opened, (rw (at-x, there) allowed, (rw (at-x, there, ox) ends, (le-leb (ν + 1) spent left-nonce, tt))))))))))))
 
     passes : Passed (checks m s′ t′ (access w x u φ) d)
     passes =

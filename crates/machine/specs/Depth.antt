@@ -7,7 +7,7 @@ use Prim.Native.Nat.{ℕ, zero, suc, _≤_, _<_}
 use lib.Dec.{eqb, leb}
 use lib.ListN.{length}
 use Rattle.layout.specs.Form.{illFormed}
-use Rattle.machine.specs.Line.{endOf, linked, lineOf, parentNumber}
+use Rattle.machine.specs.Line.{endOf, isPaged, linked, lineOf, parentNumber}
 use Rattle.machine.specs.Operations.{climb}
 use Rattle.machine.specs.Parts.{at, size}
 use Rattle.machine.specs.Writes.{vacated}
@@ -18,7 +18,8 @@ walkMeets zero m t n = n ∷ []
 walkMeets (suc steps) m t n =
     let up = walkMeets steps m t (parentNumber (at t n)) in
     let onward = cond (linked t (at t n)) up [] in
-    let sound = cond (eqb (at t n .kind) 1) [] onward in
+    let indirect = cond (isPaged (at t n)) [] onward in
+    let sound = cond (eqb (at t n .kind) 1) [] indirect in
     n ∷ cond (illFormed m (at t n)) [] sound
 
 -- and those that a drop's climb meets, a call of `Operations.climb` each

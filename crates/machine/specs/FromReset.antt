@@ -26,7 +26,7 @@ addedBelow f t (suc k) = addedBelow f t k + f k (at t k)
 abbrev pub added : (ℕ → Entry → ℕ) → List ℕ → ℕ
 added f t = addedBelow f t (size t)
 
--- how many bytes an entry owns: a direct one its length, any other none; and how many all own together
+-- how many bytes an entry owns: a direct one its length, any other none, also one that is paged out; and how many all own together
 abbrev pub owned : Entry → ℕ
 owned e = cond (eqb (e .kind) 1) (e .length) 0
 
@@ -62,8 +62,9 @@ pub record Sound (σ : Machine) : Type 0 where
   pub formed : (n : ℕ) → at (σ .table) n .kind ≢ 0 → illFormed (length (σ .memory)) (at (σ .table) n) ≡ false
   pub storable : (n : ℕ) → at (σ .table) n .kind ≢ 0 → Storable (at (σ .table) n)
   pub below : (n : ℕ) → at (σ .table) n .kind ≢ 0 → at (σ .table) n .nonce < σ .state .next
-  -- a direct entry is Lockable; an indirect one has a count of at least 1
+  -- a direct entry is Lockable, and so is one that is paged out; an indirect one has a count of at least 1
   pub lockable : (n : ℕ) → at (σ .table) n .kind ≡ 1 → at (σ .table) n .lockable ≡ true
+  pub pagedLockable : (n : ℕ) → at (σ .table) n .kind ≡ 3 → at (σ .table) n .lockable ≡ true
   pub counted : (n : ℕ) → at (σ .table) n .kind ≡ 2 → 1 ≤ at (σ .table) n .count
   -- an entry whose link holds lies inside its parent
   pub inside : (n : ℕ) → Linked (σ .table) n → Inside (at (σ .table) n) (at (σ .table) (parentNumber (at (σ .table) n)))

@@ -10,6 +10,7 @@ pub mod Lent
 pub mod Line
 pub mod LoadImages
 pub mod Operations
+pub mod Paging
 pub mod Parts
 pub mod Recorded
 pub mod Recordings

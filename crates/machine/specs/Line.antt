@@ -9,6 +9,10 @@ use Rattle.tokens.specs.Token.{namedAs}
 use Rattle.layout.specs.declared.entry.Entry.{Entry}
 use Rattle.machine.specs.Parts.{at}
 
+-- the entry is paged out (02, paper 6)
+abbrev pub isPaged : Entry → Bool
+isPaged e = eqb (e .kind) 3
+
 -- what the parent token of an indirect entry names; it is in encoding 1
 abbrev pub parentNumber : Entry → ℕ
 parentNumber e = namedAs 1 (e .parent) .number
@@ -17,17 +21,19 @@ abbrev pub parentTag : Entry → ℕ
 parentTag e = namedAs 1 (e .parent) .tag
 
 -- "An indirect entry's parent must hold the tag that the parent token names, and a nonce below the child's." A parent beyond the table,
--- free, with another tag or too high a nonce is a missing link, ill-formed or not.
+-- free, with another tag or too high a nonce is a missing link, ill-formed or not. 02, paper 6: "a paged parent is a missing link".
 abbrev pub links : Entry → Entry → Bool
-links p e = not (eqb (p .kind) 0) && eqb (p .tag) (parentTag e) && ltb (p .nonce) (e .nonce)
+links p e = not (eqb (p .kind) 0) && not (isPaged p) && eqb (p .tag) (parentTag e) && ltb (p .nonce) (e .nonce)
 
 abbrev pub linked : List ℕ → Entry → Bool
 linked t e = links (at t (parentNumber e)) e
 
 -- "A direct entry is its own owner." A line ends at its owner, at the entry that holds a missing link ("A missing link makes it dead"), or at an ill-formed entry. "A walk stops
--- at its first bad link or entry. A link is judged before the entry it leads to."
+-- at its first bad link or entry. A link is judged before the entry it leads to." 02, paper 6: one that is paged out has no link and no segment; its line is itself,
+-- without an owner.
 pub data Line : Type 0 where
   owner : ℕ → Line
+  pagedOut : ℕ → Line
   dead : ℕ → Line
   ill : ℕ → Line
 
@@ -37,7 +43,8 @@ walk zero m t n = dead n
 walk (suc steps) m t n =
     let up = walk steps m t (parentNumber (at t n)) in
     let onward = cond (linked t (at t n)) up (dead n) in
-    let sound = cond (eqb (at t n .kind) 1) (owner n) onward in
+    let indirect = cond (isPaged (at t n)) (pagedOut n) onward in
+    let sound = cond (eqb (at t n .kind) 1) (owner n) indirect in
     cond (illFormed m (at t n)) (ill n) sound
 
 abbrev pub lineOf : ℕ → List ℕ → ℕ → Line
@@ -45,23 +52,27 @@ lineOf m t n = walk (suc (at t n .nonce)) m t n
 
 abbrev pub isIll : Line → Bool
 isIll (owner k) = false
+isIll (pagedOut k) = false
 isIll (dead k) = false
 isIll (ill k) = true
 
 abbrev pub isDead : Line → Bool
 isDead (owner k) = false
+isDead (pagedOut k) = false
 isDead (dead k) = true
 isDead (ill k) = false
 
 -- the owner's number, for a line that has one
 abbrev pub ownerOf : Line → ℕ
 ownerOf (owner k) = k
+ownerOf (pagedOut k) = 0
 ownerOf (dead k) = 0
 ownerOf (ill k) = 0
 
--- the entry at which it ends: the owner, the entry that holds the missing link, or the ill-formed one
+-- the entry at which it ends: the owner, the one that is paged out, the entry that holds the missing link, or the ill-formed one
 abbrev pub endOf : Line → ℕ
 endOf (owner k) = k
+endOf (pagedOut k) = k
 endOf (dead k) = k
 endOf (ill k) = k
 
@@ -74,9 +85,10 @@ pub data Bad : Type 0 where
 abbrev pub badOf : (number : ℕ) → Line → Bad
 badOf n l = cond (eqb (endOf l) n) itself ancestor
 
--- "The owner's lock is the lock of all below." A dead line counts as unlocked.
+-- "The owner's lock is the lock of all below." A dead line counts as unlocked, and what is paged out is "unlocked".
 abbrev pub isLocked : List ℕ → Line → Bool
 isLocked t (owner k) = at t k .locked
+isLocked t (pagedOut k) = false
 isLocked t (dead k) = false
 isLocked t (ill k) = false
 

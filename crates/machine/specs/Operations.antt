@@ -9,14 +9,14 @@ use lib.Dec.{eqb, leb}
 use lib.ListN.{length, replicate}
 use Rattle.hex.specs.Text.{Piece}
 use Rattle.hex.specs.Written.{writtenLength}
-use Rattle.layout.specs.Entry.{direct, indirect, recounted, relocked}
+use Rattle.layout.specs.Entry.{direct, indirect, paged, recounted, relocked}
 use Rattle.tokens.specs.Permissions.{X}
 use Rattle.tokens.specs.Token.{named}
 use Rattle.layout.specs.declared.entry.Entry.{Entry}
 use Rattle.machine.specs.Images.{piecesOf}
 use Rattle.machine.specs.Line.{isLocked, lineOf, linked, ownerOf, parentNumber}
 use Rattle.machine.specs.Parts.{at, State}
-use Rattle.machine.specs.Requests.{access, clone, create, derive, dump, executeOnly, fetching, load, lock, merge, reading, release, Request, reset, revoke, unlock, Way, writing}
+use Rattle.machine.specs.Requests.{access, clone, create, derive, dump, executeOnly, fetching, load, lock, merge, pageIn, pageOut, reading, release, Request, reset, revoke, unlock, Way, writing}
 use Rattle.machine.specs.Writes.{alter, begin, Book, give, Name, nameOf, opened, reissue, tokenFor, vacate, vacated, Write, written}
 
 -- ---- what a request hands back
@@ -187,8 +187,11 @@ grantLock t owner locked h = altering (alter owner (relocked (at t owner) locked
 abbrev pub fresh : Entry → ℕ → Entry
 fresh e ν = direct (e .base) (e .length) 0 7 true 0 ν
 
+abbrev pub zeroed : Entry → List Store
+zeroed e = record { start = e .base; bytes = replicate (e .length) 0 } ∷ []
+
 abbrev pub grantRevoke : List ℕ → ℕ → (encoding : ℕ) → Grant
-grantRevoke t n c = record { writes = reissue n (fresh (at t n)) ∷ []; encoding = c; dropped = 0; length = 0; effect = store (at t n .base) (replicate (at t n .length) 0) }
+grantRevoke t n c = record { writes = reissue n (fresh (at t n)) ∷ []; encoding = c; dropped = 0; length = 0; effect = record { stores = zeroed (at t n); fill = unfilled } }
 
 -- load "writes the data at its offsets"; "where records overlap, the later one wins": pieces of data, one after the other, in a segment from its base on
 abbrev pub placed : (base : ℕ) → List Piece → List Store
@@ -201,6 +204,29 @@ grantLoad e b = effecting 0 (record { stores = placed (e .base) (piecesOf b); fi
 -- dump "turns a readable segment [..] into such text"
 abbrev pub grantDump : Entry → Grant
 grantDump e = effecting (writtenLength (e .length)) (text (e .base) (e .length))
+
+-- paging out: "the bytes go to a caller's buffer of equal length [..], the entry becomes type 3 (type, page-file number 64 as requested, length 32, 39 zeros,
+-- user 64, the rest as direct, unlocked) and is issued anew; the zeroed segment becomes a new direct entry with R, W, X, Lockable and user 0, issued second; both
+-- tokens are answered in that order". The new one is as revoke's.
+abbrev pub outOf : Entry → (page : ℕ) → ℕ → Entry
+outOf e f ν = paged f (e .length) (e .user) (e .permissions) (e .lockable) 0 ν
+
+abbrev pub grantPageOut : List ℕ → ℕ → (page encoding : ℕ) → Grant
+grantPageOut t n f c = record {
+  writes = reissue n (outOf (at t n) f) ∷ give (fresh (at t n)) ∷ [];
+  encoding = c;
+  dropped = 0;
+  length = 0;
+  effect = record { stores = zeroed (at t n); fill = fillFrom (at t n .base) (at t n .length) };
+}
+
+-- paging in: "the buffer's bytes land in the donor's segment, the paged entry becomes direct there, is issued anew, its token answered, and the donor is freed".
+-- User, permissions and Lockable are the paged entry's own.
+abbrev pub inOf : Entry → (donor : Entry) → ℕ → Entry
+inOf e d ν = direct (d .base) (e .length) (e .user) (e .permissions) (e .lockable) 0 ν
+
+abbrev pub grantPageIn : List ℕ → ℕ → (donor encoding : ℕ) → List ℕ → Grant
+grantPageIn t n k c b = record { writes = reissue n (inOf (at t n) (at t k)) ∷ vacate k ∷ []; encoding = c; dropped = 0; length = 0; effect = store (at t k .base) b }
 
 -- what a granted request does, where the memory has m bytes and the request brings the buffer b. "Execute-only: the same [as derive], without the
 -- sum, over the whole segment with X alone."
@@ -218,3 +244,5 @@ grant m t (unlock k u) b = grantLock t (ownerOf (lineOf m t (numberOf k))) false
 grant m t (revoke k c) b = grantRevoke t (numberOf k) c
 grant m t (load k u φ) b = grantLoad (namedEntry t k) b
 grant m t (dump k u φ) b = grantDump (namedEntry t k)
+grant m t (pageOut k u f c) b = grantPageOut t (numberOf k) f c
+grant m t (pageIn j k u c) b = grantPageIn t (numberOf j) (numberOf k) c b

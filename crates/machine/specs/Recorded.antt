@@ -6,7 +6,7 @@ use Prim.Native.Nat.{ℕ}
 use lib.ListN.{replicate}
 use Rattle.bits.specs.Bytes.{bytes}
 use Rattle.layout.specs.Examples as printed
-use Rattle.machine.specs.Operations.{Decision, Effect, nothing}
+use Rattle.machine.specs.Operations.{Decision, Effect, fillFrom, nothing}
 use Rattle.machine.specs.Parts.{State}
 use Rattle.machine.specs.Requests.{Call, Request, Shift}
 use Rattle.machine.specs.Session.{decisions, leaves}
@@ -44,6 +44,10 @@ pub record Row : Type 0 where
 -- a row of a granted request, and of a refused one
 abbrev pub grants : Call → (tokens : List ℕ) (dropped last next total : ℕ) → Effect → Row
 grants q ks d l ν k f = record { call = q; told = record { refusal = 0; bad = 0; tokens = ks; dropped = d; length = 0; last = l; next = ν; total = k; effect = f } }
+
+-- what a granted paging out does: a range of memory goes to the buffer, and becomes zeros
+abbrev pub takes : (start length : ℕ) → Effect
+takes a n = record { stores = record { start = a; bytes = zeros n } ∷ []; fill = fillFrom a n }
 
 -- of a granted dump, by its text's length
 abbrev pub dumps : Call → (length last next total : ℕ) → Effect → Row

@@ -7,8 +7,8 @@ use mathlib.Core.List.{List, [], _∷_}
 use Prim.Native.Nat.{ℕ}
 use Rattle.layout.specs.Examples.{Row}
 use Rattle.machine.specs.Operations.{fetch, nothing, store, text}
-use Rattle.machine.specs.Recorded.{dumps, during, grants, known, limit, moves, over, refuses, Session, zeros}
-use Rattle.machine.specs.Requests.{access, clone, create, derive, dump, executeOnly, fetching, load, lock, merge, noShift, reading, release, reset, revoke, unlock, writing}
+use Rattle.machine.specs.Recorded.{dumps, during, grants, known, limit, moves, over, refuses, Session, takes, zeros}
+use Rattle.machine.specs.Requests.{access, clone, create, derive, dump, executeOnly, fetching, load, lock, merge, noShift, pageIn, pageOut, reading, release, reset, revoke, unlock, writing}
 use Rattle.machine.specs.Session.{plain}
 
 -- a text of an end record alone
@@ -30,7 +30,7 @@ handed =
     ∷ 0x400000060805380000000000e00000008000200000000000002000a800000020
     ∷ 0x400000040805180000000000600000011fffc00000000000000800a900000021
     ∷ 0x400000050805200000000000800000008000200000000000003000aa0000000d
-    ∷ 0x600000000000000000000000000000000000000000000000000000ab00000000
+    ∷ 0x800000000000000000000000000000000000000000000000000000ab00000000
     ∷ 0x400000050805200000000000800000008000200000000000003000ac00000022
     ∷ 0x200000070000000100000000000000000000000000000000003a00ad00000010
     ∷ 0x200000060000000100002000000000000000000000000000003a00ae00000011
@@ -312,7 +312,7 @@ handedOn = record {
       ∷ 0xa800000000
       ∷ 0x400000040805180000000000600000011fffe00000000000000800a900000021
       ∷ 0xaa00000000
-      ∷ 0x600000000000000000000000000000000000000000000000000000ab00000000
+      ∷ 0x800000000000000000000000000000000000000000000000000000ab00000000
       ∷ 0xac00000000
       ∷ 0x200000070000000100001fffffffffffffc0000000000000003e00ad00000010
       ∷ 0x200000060000000100000000000000000000000000000000003a00ae00000011
@@ -641,12 +641,125 @@ lastTagsFreed = record {
       ∷ [];
 }
 
+-- A table with paged entries (02, paper 6). Entry n has tag a0 + n, hex. 0, 1 and 2 are direct, 0 without X and not Lockable, 1 locked for 7; 3 is paged, 4 too and
+-- ill-formed; 5 is direct and ill-formed; 6 is under 3; 7 is free.
+abbrev pagedTable : List ℕ
+pagedTable =
+    0x200000000000000080000000000000000000000000000000027000a00000000a
+    ∷ 0x2000000080000000800000000000000001c0000000000000016e00a10000000b
+    ∷ 0x200000010000000100000000000000000000000000000000003a00a20000000c
+    ∷ 0x7fffffffffffffffe000000080000000003fffffffffffffffe200a30000000d
+    ∷ 0x600000000000000020000000800000000040000000000000003a00a40000000e
+    ∷ 0x200000020000000080000000000000000000000000000000003b00a50000000f
+    ∷ 0x400000000805180000000000600000004000200000000000002000a600000010
+    ∷ 0xa700000000
+    ∷ []
+
+-- paging out and in: each refusal of both, 17 of each other request, an out and an in that are granted, and the last nonces
+abbrev pages : Session
+pages = record {
+  memory = 24;
+  state = known 7 8 0 4294967292 1;
+  table = pagedTable;
+  rows =
+      -- out
+      refuses (over (zeros 4) (pageOut 0x28000000000001 0 1 0)) 1 0 0 4294967292 1
+      ∷ refuses (over (zeros 4) (pageOut 0x4028000000000000 0 1 4)) 1 0 0 4294967292 1
+      ∷ refuses (over (zeros 4) (pageOut 0x4028000000000000 36028797018963968 1 0)) 1 0 0 4294967292 1
+      ∷ refuses (over (zeros 4) (pageOut 0x4029c00000000007 0 1 0)) 2 0 0 4294967292 1
+      ∷ refuses (over (zeros 4) (pageOut 0x4028400000000000 0 1 0)) 2 0 0 4294967292 1
+      ∷ refuses (over (zeros 4) (pageOut 0x4028c00000000003 0 1 0)) 17 0 0 4294967292 1
+      ∷ refuses (over (zeros 4) (pageOut 0x4029000000000004 0 1 0)) 17 0 0 4294967292 1
+      ∷ refuses (over (zeros 4) (pageOut 0x4029400000000005 0 1 0)) 3 1 0 4294967292 1
+      ∷ refuses (over (zeros 2) (pageOut 0x4029800000000006 0 1 0)) 4 1 0 4294967292 1
+      ∷ refuses (over (zeros 4) (pageOut 0x4028400000000001 8 1 0)) 5 0 0 4294967292 1
+      ∷ refuses (plain (pageOut 0x4028000000000000 0 1 0)) 8 0 0 4294967292 1
+      ∷ refuses (over (zeros 3) (pageOut 0x4028000000000000 0 1 0)) 8 0 0 4294967292 1
+      ∷ refuses (over (zeros 5) (pageOut 0x4028000000000000 0 1 0)) 8 0 0 4294967292 1
+      ∷ refuses (over (zeros 3) (pageOut 0x4028400000000001 7 1 0)) 8 0 0 4294967292 1
+      ∷ refuses (over (zeros 4) (pageOut 0x4028400000000001 7 1 0)) 9 0 0 4294967292 1
+      -- with a child of 2 the table is full
+      ∷ grants (plain (derive 0x4028800000000002 0 8 7 1)) (0x4bb0800000000007 ∷ []) 0 7 4294967293 0 nothing
+      ∷ refuses (over (zeros 3) (pageOut 0x4bb0800000000007 0 1 0)) 6 0 7 4294967293 0
+      ∷ refuses (over (zeros 8) (pageOut 0x4028800000000002 0 1 0)) 9 0 7 4294967293 0
+      ∷ refuses (over (zeros 4) (pageOut 0x4028000000000000 0 1 0)) 10 0 7 4294967293 0
+      ∷ refuses (over (200 ∷ 201 ∷ 202 ∷ 203 ∷ []) (pageIn 0x4028c00000000003 0x4bb0800000000007 0 0)) 6 0 7 4294967293 0
+      ∷ grants (plain (release 0x4bb0800000000007)) [] 1 7 4294967293 1 nothing
+      -- in
+      ∷ refuses (over (200 ∷ 201 ∷ 202 ∷ 203 ∷ []) (pageIn 0x28c00300000001 0x4028000000000000 0 0)) 1 0 7 4294967293 1
+      ∷ refuses (over (200 ∷ 201 ∷ 202 ∷ 203 ∷ []) (pageIn 0x4028c00000000003 0x28000000000001 0 0)) 1 0 7 4294967293 1
+      ∷ refuses (over (200 ∷ 201 ∷ 202 ∷ 203 ∷ []) (pageIn 0x4028c00000000003 0x4028000000000000 36028797018963968 0)) 1 0 7 4294967293 1
+      ∷ refuses (over (200 ∷ 201 ∷ 202 ∷ 203 ∷ []) (pageIn 0x4028c00000000003 0x4028000000000000 0 4)) 1 0 7 4294967293 1
+      ∷ refuses (over (200 ∷ 201 ∷ 202 ∷ 203 ∷ []) (pageIn 0x4029c00000000007 0x4029400000000005 0 0)) 2 0 7 4294967293 1
+      ∷ refuses (over (200 ∷ 201 ∷ 202 ∷ 203 ∷ []) (pageIn 0x4028c00000000003 0x4029c00000000007 0 0)) 2 0 7 4294967293 1
+      ∷ refuses (over (200 ∷ 201 ∷ 202 ∷ 203 ∷ []) (pageIn 0x4029000000000004 0x4029c00000000007 0 0)) 3 1 7 4294967293 1
+      ∷ refuses (over (200 ∷ 201 ∷ 202 ∷ 203 ∷ []) (pageIn 0x4028c00000000003 0x4029400000000005 0 0)) 3 1 7 4294967293 1
+      ∷ refuses (over (200 ∷ 201 ∷ 202 ∷ 203 ∷ []) (pageIn 0x4028c00000000003 0x4029000000000004 0 0)) 3 1 7 4294967293 1
+      ∷ refuses (over (200 ∷ 201 ∷ 202 ∷ 203 ∷ []) (pageIn 0x4029800000000006 0x4029c00000000007 0 0)) 4 1 7 4294967293 1
+      ∷ refuses (over (200 ∷ 201 ∷ 202 ∷ 203 ∷ []) (pageIn 0x4028c00000000003 0x4029800000000006 0 0)) 4 1 7 4294967293 1
+      ∷ refuses (over (200 ∷ 201 ∷ 202 ∷ 203 ∷ []) (pageIn 0x4028400000000001 0x4029c00000000007 8 0)) 5 0 7 4294967293 1
+      ∷ refuses (over (200 ∷ 201 ∷ 202 ∷ 203 ∷ []) (pageIn 0x4028c00000000003 0x4028400000000001 8 0)) 5 0 7 4294967293 1
+      ∷ refuses (plain (pageIn 0x4028000000000000 0x4028800000000002 0 0)) 6 0 7 4294967293 1
+      ∷ refuses (plain (pageIn 0x4028c00000000003 0x4028c00000000003 0 0)) 6 0 7 4294967293 1
+      ∷ refuses (over (200 ∷ 201 ∷ 202 ∷ []) (pageIn 0x4028c00000000003 0x4028400000000001 7 0)) 8 0 7 4294967293 1
+      ∷ refuses (over (200 ∷ 201 ∷ 202 ∷ 203 ∷ []) (pageIn 0x4028c00000000003 0x4028800000000002 0 0)) 8 0 7 4294967293 1
+      ∷ refuses (over (200 ∷ 201 ∷ 202 ∷ 203 ∷ 204 ∷ 205 ∷ 206 ∷ 207 ∷ []) (pageIn 0x4028c00000000003 0x4028800000000002 0 0)) 8 0 7 4294967293 1
+      ∷ refuses (over (200 ∷ 201 ∷ 202 ∷ 203 ∷ []) (pageIn 0x4028c00000000003 0x4028400000000001 7 0)) 9 0 7 4294967293 1
+      -- each other request of a paged entry, also of one that is ill-formed
+      ∷ refuses (over (zeros 1) (access reading 0x4028c00000000003 0 noShift)) 17 0 7 4294967293 1
+      ∷ refuses (over (200 ∷ []) (access writing 0x4029000000000004 0 noShift)) 17 0 7 4294967293 1
+      ∷ refuses (plain (create 0x4028c00000000003 0 4 0 4 0)) 17 0 7 4294967293 1
+      ∷ refuses (plain (merge 0x4028c00000000003 0x4028000000000000 0 0)) 17 0 7 4294967293 1
+      ∷ refuses (plain (merge 0x4028000000000000 0x4028c00000000003 0 0)) 17 0 7 4294967293 1
+      ∷ refuses (plain (derive 0x4028c00000000003 0 4 4 0)) 17 0 7 4294967293 1
+      ∷ refuses (plain (executeOnly 0x4028c00000000003 0)) 17 0 7 4294967293 1
+      ∷ refuses (plain (clone 0x4028c00000000003)) 17 0 7 4294967293 1
+      ∷ refuses (plain (release 0x4028c00000000003)) 17 0 7 4294967293 1
+      ∷ refuses (plain (release 0x4029000000000004)) 17 0 7 4294967293 1
+      ∷ refuses (plain (lock 0x4028c00000000003 7)) 17 0 7 4294967293 1
+      ∷ refuses (plain (unlock 0x4028c00000000003 7)) 17 0 7 4294967293 1
+      ∷ refuses (plain (revoke 0x4028c00000000003 0)) 17 0 7 4294967293 1
+      ∷ refuses (over ended (load 0x4028c00000000003 0 noShift)) 17 0 7 4294967293 1
+      ∷ refuses (over (zeros 56) (dump 0x4028c00000000003 0 noShift)) 17 0 7 4294967293 1
+      -- a child of a paged entry is dead, and its drop ends there
+      ∷ refuses (over (zeros 1) (access reading 0x4029800000000006 0 noShift)) 4 1 7 4294967293 1
+      ∷ grants (plain (release 0x4029800000000006)) [] 1 7 4294967293 2 nothing
+      -- out, under a page-file number of 64 bits, by the last task; then one nonce is left
+      ∷ grants (over (zeros 4) (pageOut 0x4028000000000000 36028797018963967 18446744073709551614 2)) (0xb42f800000000000 ∷ 0xb724000000060000 ∷ []) 0 6 4294967295 1 (takes 0 4)
+      ∷ refuses (over (zeros 1) (access reading 0x4028000000000000 0 noShift)) 2 0 6 4294967295 1
+      ∷ refuses (over (zeros 1) (access reading 0xb42f800000000000 0 noShift)) 17 0 6 4294967295 1
+      ∷ grants (over (zeros 4) (access reading 0xb724000000060000 0 noShift)) [] 0 6 4294967295 1 (fetch 0 4)
+      ∷ refuses (over (zeros 8) (pageOut 0x4028800000000002 0 1 0)) 11 0 6 4294967295 1
+      -- in, once the donor is unlocked and not counted; then none is left
+      ∷ grants (plain (unlock 0x4028400000000001 7)) [] 0 6 4294967295 1 nothing
+      ∷ grants (plain (clone 0x4028400000000001)) [] 0 6 4294967295 1 nothing
+      ∷ refuses (over (200 ∷ 201 ∷ 202 ∷ 203 ∷ []) (pageIn 0x4028c00000000003 0x4028400000000001 0 3)) 9 0 6 4294967295 1
+      ∷ grants (plain (release 0x4028400000000001)) [] 1 6 4294967295 1 nothing
+      ∷ grants (over (200 ∷ 201 ∷ 202 ∷ 203 ∷ []) (pageIn 0x4028c00000000003 0x4028400000000001 0 3)) (0xc21c800003000000 ∷ []) 0 6 4294967296 2 (store 4 (200 ∷ 201 ∷ 202 ∷ 203 ∷ []))
+      ∷ refuses (over (zeros 1) (access reading 0x4028c00000000003 0 noShift)) 2 0 6 4294967296 2
+      ∷ refuses (over (zeros 1) (access reading 0x4028400000000001 0 noShift)) 2 0 6 4294967296 2
+      ∷ grants (over (zeros 4) (access reading 0xc21c800003000000 0 noShift)) [] 0 6 4294967296 2 (fetch 4 4)
+      ∷ refuses (over (zeros 8) (pageOut 0x4028800000000002 0 1 0)) 11 0 6 4294967296 2
+      ∷ refuses (over (200 ∷ 201 ∷ 202 ∷ 203 ∷ []) (pageIn 0xb42f800000000000 0xb724000000060000 0 0)) 11 0 6 4294967296 2
+      ∷ [];
+  left =
+      0x7fffffffffffffffc00000008000000000000000000000000270d0befffffffd
+      ∷ 0xa100000000
+      ∷ 0x200000010000000100000000000000000000000000000000003a00a20000000c
+      ∷ 0x20000000800000008000000000000000003fffffffffffffffe20872ffffffff
+      ∷ 0x600000000000000020000000800000000040000000000000003a00a40000000e
+      ∷ 0x200000020000000080000000000000000000000000000000003b00a50000000f
+      ∷ 0x200000000000000080000000000000000000000000000000003adc90fffffffe
+      ∷ 0x2ec200000000
+      ∷ [];
+}
+
 -- computed in this crate, and in `uses`
 abbrev pub sessions : List Session
 sessions = handedOver ∷ handedOn ∷ goingRound ∷ lastNonces ∷ wholes ∷ noneLeft ∷ imaged ∷ []
 
 abbrev pub sessionsAbove : List Session
-sessionsAbove = fromReset ∷ inShifts ∷ []
+sessionsAbove = fromReset ∷ inShifts ∷ pages ∷ []
 
 abbrev pub sessionsKept : List Session
 sessionsKept = lastTags ∷ lastTagsFreed ∷ []

@@ -10,7 +10,7 @@ use Rattle.machine.specs.Steps.{answer, decision, Machine, step}
 -- one of 01's numbers, or 02's; only 3 and 4 tell which entry was bad: 1 "the named entry", 2 "an ancestor"
 pub record Told (refusal bad : ℕ) : Type 0 where
   pub least : 1 ≤ refusal
-  pub most : refusal ≤ 16
+  pub most : refusal ≤ 17
   pub line : 3 ≤ refusal → refusal ≤ 4 → (1 ≤ bad) × (bad ≤ 2)
   pub plain : refusal ≢ 3 → refusal ≢ 4 → bad ≡ 0
 

@@ -26,7 +26,7 @@ abbrev pub noShift : Shift
 noShift = record { minute = 0; leases = [] }
 
 -- what each carries. A letter stands for the same thing wherever a request is taken apart: k, j tokens; u the task; l the length; x the user;
--- p the permissions; c the encoding; o the offset; w the way; ν the first nonce; φ the shift. `release` is 01's drop.
+-- p the permissions; c the encoding; o the offset; w the way; ν the first nonce; φ the shift; f the page-file number. `release` is 01's drop.
 pub data Request : Type 0 where
   reset : (key0 key1 firstNonce : ℕ) → Request
   access : Way → (token task : ℕ) → Shift → Request
@@ -42,8 +42,11 @@ pub data Request : Type 0 where
   -- 02, paper 2: a text is read into the segment; the segment is written as such text
   load : (token task : ℕ) → Shift → Request
   dump : (token task : ℕ) → Shift → Request
+  -- 02, paper 6: a segment goes out to the buffer, under a page-file number; the buffer's bytes come in to the donor's segment
+  pageOut : (token task page encoding : ℕ) → Request
+  pageIn : (token donor task encoding : ℕ) → Request
 
--- a request and the buffer that it brings; only an access, a load and a dump look at it
+-- a request and the buffer that it brings; only an access, a load, a dump, and what pages out and in look at it
 pub record Call : Type 0 where
   pub request : Request
   pub buffer : List ℕ
@@ -63,3 +66,5 @@ taskOf (unlock k u) = u
 taskOf (revoke k c) = 0
 taskOf (load k u φ) = u
 taskOf (dump k u φ) = u
+taskOf (pageOut k u f c) = u
+taskOf (pageIn j k u c) = u

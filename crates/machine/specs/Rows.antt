@@ -7,25 +7,27 @@ use mathlib.Core.List.{List, [], _∷_, List·Memᴰ}
 use Prim.Native.Nat.{ℕ}
 use lib.Dec.{eqb}
 use Rattle.machine.specs.Parts.{State}
-use Rattle.machine.specs.Requests.{access, Call, clone, create, derive, dump, executeOnly, load, lock, merge, release, Request, reset, revoke, taskOf, unlock}
+use Rattle.machine.specs.Requests.{access, Call, clone, create, derive, dump, executeOnly, load, lock, merge, pageIn, pageOut, release, Request, reset, revoke, taskOf, unlock}
 use Rattle.machine.specs.Steps.{answer, Machine}
 use Rattle.machine.specs.Stops.{Check, checks, refusalNumber}
 
 -- the rows of 01's table, and the refusals of 02, by their numbers, that each request is judged by
 abbrev pub row : Request → List ℕ
 row (reset k0 k1 ν) = 1 ∷ []
-row (access w k u φ) = 1 ∷ 16 ∷ 2 ∷ 3 ∷ 4 ∷ 5 ∷ 15 ∷ 7 ∷ 8 ∷ []
-row (create k u l x p c) = 1 ∷ 2 ∷ 3 ∷ 4 ∷ 5 ∷ 6 ∷ 7 ∷ 8 ∷ 9 ∷ 10 ∷ 11 ∷ []
-row (merge j k u c) = 1 ∷ 2 ∷ 3 ∷ 4 ∷ 5 ∷ 2 ∷ 3 ∷ 4 ∷ 5 ∷ 6 ∷ 8 ∷ 9 ∷ 11 ∷ []
-row (derive k o l p c) = 1 ∷ 2 ∷ 3 ∷ 4 ∷ 7 ∷ 8 ∷ 9 ∷ 10 ∷ 11 ∷ []
-row (executeOnly k c) = 1 ∷ 2 ∷ 3 ∷ 4 ∷ 7 ∷ 9 ∷ 10 ∷ 11 ∷ []
-row (clone k) = 1 ∷ 2 ∷ 3 ∷ 4 ∷ 9 ∷ []
-row (release k) = 1 ∷ 2 ∷ 3 ∷ 9 ∷ []
-row (lock k u) = 1 ∷ 2 ∷ 3 ∷ 4 ∷ 5 ∷ 7 ∷ []
-row (unlock k u) = 1 ∷ 2 ∷ 3 ∷ 4 ∷ 5 ∷ 9 ∷ []
-row (revoke k c) = 1 ∷ 2 ∷ 3 ∷ 4 ∷ 6 ∷ 11 ∷ []
-row (load k u φ) = 1 ∷ 12 ∷ 13 ∷ 16 ∷ 2 ∷ 3 ∷ 4 ∷ 5 ∷ 15 ∷ 7 ∷ 8 ∷ []
-row (dump k u φ) = 1 ∷ 16 ∷ 2 ∷ 3 ∷ 4 ∷ 5 ∷ 15 ∷ 7 ∷ 14 ∷ []
+row (access w k u φ) = 1 ∷ 16 ∷ 2 ∷ 17 ∷ 3 ∷ 4 ∷ 5 ∷ 15 ∷ 7 ∷ 8 ∷ []
+row (create k u l x p c) = 1 ∷ 2 ∷ 17 ∷ 3 ∷ 4 ∷ 5 ∷ 6 ∷ 7 ∷ 8 ∷ 9 ∷ 10 ∷ 11 ∷ []
+row (merge j k u c) = 1 ∷ 2 ∷ 17 ∷ 3 ∷ 4 ∷ 5 ∷ 2 ∷ 17 ∷ 3 ∷ 4 ∷ 5 ∷ 6 ∷ 8 ∷ 9 ∷ 11 ∷ []
+row (derive k o l p c) = 1 ∷ 2 ∷ 17 ∷ 3 ∷ 4 ∷ 7 ∷ 8 ∷ 9 ∷ 10 ∷ 11 ∷ []
+row (executeOnly k c) = 1 ∷ 2 ∷ 17 ∷ 3 ∷ 4 ∷ 7 ∷ 9 ∷ 10 ∷ 11 ∷ []
+row (clone k) = 1 ∷ 2 ∷ 17 ∷ 3 ∷ 4 ∷ 9 ∷ []
+row (release k) = 1 ∷ 2 ∷ 17 ∷ 3 ∷ 9 ∷ []
+row (lock k u) = 1 ∷ 2 ∷ 17 ∷ 3 ∷ 4 ∷ 5 ∷ 7 ∷ []
+row (unlock k u) = 1 ∷ 2 ∷ 17 ∷ 3 ∷ 4 ∷ 5 ∷ 9 ∷ []
+row (revoke k c) = 1 ∷ 2 ∷ 17 ∷ 3 ∷ 4 ∷ 6 ∷ 11 ∷ []
+row (load k u φ) = 1 ∷ 12 ∷ 13 ∷ 16 ∷ 2 ∷ 17 ∷ 3 ∷ 4 ∷ 5 ∷ 15 ∷ 7 ∷ 8 ∷ []
+row (dump k u φ) = 1 ∷ 16 ∷ 2 ∷ 17 ∷ 3 ∷ 4 ∷ 5 ∷ 15 ∷ 7 ∷ 14 ∷ []
+row (pageOut k u f c) = 1 ∷ 2 ∷ 17 ∷ 3 ∷ 4 ∷ 5 ∷ 6 ∷ 8 ∷ 9 ∷ 10 ∷ 11 ∷ []
+row (pageIn j k u c) = 1 ∷ 2 ∷ 3 ∷ 4 ∷ 5 ∷ 2 ∷ 3 ∷ 4 ∷ 5 ∷ 6 ∷ 8 ∷ 9 ∷ 11 ∷ []
 
 -- place 11 is judged for every request, after all others: a row with 11 at its end. A request that 14 may stop issues nothing, so that 14 is the last that does.
 abbrev pub ended : List ℕ → List ℕ

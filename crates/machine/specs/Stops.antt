@@ -13,10 +13,10 @@ use Rattle.tokens.specs.Permissions.{R, W, within, X}
 use Rattle.tokens.specs.Token.{named}
 use Rattle.machine.specs.Images.{mostText, piecesOf, spares, textFits}
 use Rattle.machine.specs.Issuing.{newNumber}
-use Rattle.machine.specs.Line.{ancestor, Bad, badOf, isDead, isIll, isLocked, itself, lineOf, lockedFrom, ownerOf}
+use Rattle.machine.specs.Line.{ancestor, Bad, badOf, isDead, isIll, isLocked, isPaged, itself, lineOf, lockedFrom, ownerOf}
 use Rattle.machine.specs.Operations.{book, Grant, grant, namedEntry, numberOf}
 use Rattle.machine.specs.Parts.{at, leastEntries, mostEntries, mostFree, mostMemory, size, spent, State}
-use Rattle.machine.specs.Requests.{access, clone, create, derive, dump, executeOnly, load, lock, merge, release, Request, reset, revoke, rightOf, Shift, unlock}
+use Rattle.machine.specs.Requests.{access, clone, create, derive, dump, executeOnly, load, lock, merge, pageIn, pageOut, release, Request, reset, revoke, rightOf, Shift, unlock}
 
 -- ---- the refusals
 
@@ -38,9 +38,10 @@ pub data Refusal : Type 0 where
   atRoom : Refusal
   atWindow : Refusal
   atLease : Refusal
+  atPaged : Refusal
 
 -- the column "No." of 01's table; 02, paper 2: "12 a malformed record or ending", "13 a wrong checksum", "14 an output buffer too small or a written text above
--- 65,536 bytes"; paper 4: "15 closed", "16 a lease whose minutes are equal or either is beyond the week"
+-- 65,536 bytes"; paper 4: "15 closed", "16 a lease whose minutes are equal or either is beyond the week"; paper 6: "17 a paged entry in any operation but 'in'"
 abbrev pub refusalNumber : Refusal → ℕ
 refusalNumber atRequest = 1
 refusalNumber atEntry = 2
@@ -58,6 +59,7 @@ refusalNumber atChecksum = 13
 refusalNumber atRoom = 14
 refusalNumber atWindow = 15
 refusalNumber atLease = 16
+refusalNumber atPaged = 17
 
 -- the named entry is 1, an ancestor 2; a refusal that tells of no entry has 0
 abbrev pub badNumber : Bad → ℕ
@@ -81,6 +83,7 @@ refusalBad atChecksum = 0
 refusalBad atRoom = 0
 refusalBad atWindow = 0
 refusalBad atLease = 0
+refusalBad atPaged = 0
 
 -- what must hold, and the refusal that is given if it does not
 pub record Check : Type 0 where
@@ -133,6 +136,10 @@ someLength l = not (eqb l 0)
 abbrev pub userFits : ℕ → Bool
 userFits u = ltb u (2 ^ 64)
 
+-- and so is the page-file number of paper 6
+abbrev pub pageFits : ℕ → Bool
+pageFits f = ltb f (2 ^ 64)
+
 -- "1 to 4,096 bytes"
 abbrev pub transferFits : List ℕ → List Bool
 transferFits b = leb 1 (length b) ∷ leb (length b) 4096 ∷ []
@@ -160,6 +167,10 @@ isNamed t k = ltb (numberOf k) (size t) ∷ not (eqb (namedEntry t k .kind) 0) �
 abbrev pub entryNamed : List ℕ → ℕ → List Check
 entryNamed t k = needAll atEntry (isNamed t k)
 
+-- 02, paper 6: "17 a paged entry in any operation but 'in', after its tag matched"
+abbrev pub notPaged : List ℕ → ℕ → Check
+notPaged t k = need atPaged (not (isPaged (namedEntry t k)))
+
 -- "an entry met is ill-formed"
 abbrev pub lineFormed : ℕ → List ℕ → ℕ → Check
 lineFormed m t k = let l = lineOf m t (numberOf k) in need (atForm (badOf (numberOf k) l)) (not (isIll l))
@@ -168,13 +179,13 @@ lineFormed m t k = let l = lineOf m t (numberOf k) in need (atForm (badOf (numbe
 abbrev pub lineAlive : ℕ → List ℕ → ℕ → Check
 lineAlive m t k = let l = lineOf m t (numberOf k) in need (atLine (badOf (numberOf k) l)) (not (isDead l))
 
--- "locked for another task: access, create, merge, lock, unlock"
+-- "locked for another task: access, create, merge, lock, unlock"; of 02 load, dump, paging out and in
 abbrev pub lockOpen : ℕ → List ℕ → ℕ → ℕ → Check
 lockOpen m t k u = need atLock (not (lockedFrom t u (lineOf m t (numberOf k))))
 
--- places 2 and 3 for a token, 2 to 4, and 2 to 5
+-- places 2 and 3 for a token, with 17 between them, 2 to 4, and 2 to 5
 abbrev pub formed : ℕ → List ℕ → ℕ → List Check
-formed m t k = entryNamed t k ++ (lineFormed m t k ∷ [])
+formed m t k = entryNamed t k ++ (notPaged t k ∷ lineFormed m t k ∷ [])
 
 abbrev pub live : ℕ → List ℕ → ℕ → List Check
 live m t k = formed m t k ++ (lineAlive m t k ∷ [])
@@ -182,9 +193,13 @@ live m t k = formed m t k ++ (lineAlive m t k ∷ [])
 abbrev pub reachable : ℕ → List ℕ → ℕ → ℕ → List Check
 reachable m t k u = live m t k ++ (lockOpen m t k u ∷ [])
 
+-- places 2 to 5 for a token that may name a paged entry: those of "in"
+abbrev pub pageReachable : ℕ → List ℕ → ℕ → ℕ → List Check
+pageReachable m t k u = entryNamed t k ++ (lineFormed m t k ∷ lineAlive m t k ∷ lockOpen m t k u ∷ [])
+
 -- ---- places 6 to 11
 
--- "create, merge, revoke of an indirect entry"
+-- "create, merge, revoke of an indirect entry"; 02, paper 6: of what goes out, and of a donor
 abbrev pub isDirect : Entry → Bool
 isDirect e = eqb (e .kind) 1
 
@@ -200,7 +215,11 @@ endsInside n e = need atBounds (leb n (e .length))
 abbrev pub neighbours : Entry → Entry → Check
 neighbours d e = need atBounds (eqb (e .base) (d .base + d .length))
 
--- "create or merge when locked or count not 0"
+-- 02, paper 6: "of equal length (else 8)": the segment of e has so many bytes
+abbrev pub asLong : ℕ → Entry → Check
+asLong n e = need atBounds (eqb n (e .length))
+
+-- "create or merge when locked or count not 0"; 02, paper 6: "Entry and donor must be unlocked at count 0"
 abbrev pub unlocked : Entry → Bool
 unlocked e = not (e .locked)
 
@@ -214,7 +233,7 @@ belowTop e = need atStanding (ltb (e .count) 65535)
 abbrev pub aboveZero : Entry → Check
 aboveZero e = need atStanding (not (eqb (e .count) 0))
 
--- "no free number for create, derive, execute-only"; 02, paper 3: "refusal 10 still goes by the table"
+-- "no free number for create, derive, execute-only", and for what goes out; 02, paper 3: "refusal 10 still goes by the table"
 abbrev pub numberLeft : State → List ℕ → Check
 numberLeft s t = need atNumbers (not (eqb (newNumber s t) 0))
 
@@ -319,6 +338,26 @@ unleased m s t (dump k u φ) b =
       tokens = reachable m t k u;
       rest = rightsHeld R e ∷ needAll atRoom (textFits (e .length) b);
     }
+-- 02, paper 6: "Entry and donor must be unlocked at count 0; lock, kind, length (8), standing, numbers and nonces are checked in 01's order." No right is among
+-- them.
+unleased m s t (pageOut k u f c) b =
+    let e = namedEntry t k in
+    record {
+      request = settings s t ++ (taskFits u ∷ encodingFits c ∷ pageFits f ∷ noOffset k ∷ []);
+      after = [];
+      tokens = reachable m t k u;
+      rest = need atKind (isDirect e) ∷ asLong (length b) e ∷ need atStanding (unlocked e) ∷ need atStanding (uncounted e) ∷ numberLeft s t ∷ [];
+    }
+-- "a paged token, a buffer and a donor direct entry, all of equal length"; "A paged donor, or a first token not paged, is 6; two tokens go as a merge's."
+unleased m s t (pageIn j k u c) b =
+    let e = namedEntry t j in
+    let d = namedEntry t k in
+    record {
+      request = settings s t ++ (taskFits u ∷ encodingFits c ∷ noOffset j ∷ noOffset k ∷ []);
+      after = [];
+      tokens = pageReachable m t j u ++ pageReachable m t k u;
+      rest = needAll atKind (isPaged e ∷ isDirect d ∷ []) ++ (asLong (length b) e ∷ asLong (e .length) d ∷ needAll atStanding (unlocked d ∷ uncounted d ∷ []));
+    }
 
 -- ---- shift windows: 15, 16 and place 1 of an access
 
@@ -359,6 +398,8 @@ shifted (unlock k u) p = p
 shifted (revoke k c) p = p
 shifted (load k u φ) p = leased φ k p
 shifted (dump k u φ) p = leased φ k p
+shifted (pageOut k u f c) p = p
+shifted (pageIn j k u c) p = p
 
 abbrev pub places : ℕ → State → List ℕ → Request → List ℕ → Places
 places m s t q b = shifted q (unleased m s t q b)

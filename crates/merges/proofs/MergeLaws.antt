@@ -19,16 +19,15 @@ use Rattle.checks.specs.Reached.{reachVerdict}
 use Rattle.checks.specs.declared.refusal.Refusal.the-variants.{Nonces}
 use Rattle.checks.proofs.ReachLaws.{reach-in, reached-inside, size-in}
 use Rattle.checks.proofs.VerdictLaws.{first-passes, first-stops, parts-pass}
-use Rattle.machine.specs.Operations.{book, Grant, granted, grantMerge, mergedOf, namedEntry, numberOf}
-use Rattle.machine.specs.Parts.{at, mostFree, mostMemory, size, spent, State, totalled}
+use Rattle.machine.specs.Operations.{book, Grant, grantMerge, mergedOf, namedEntry, numberOf}
+use Rattle.machine.specs.Parts.{at, mostFree, mostMemory, size, spent, State}
 use Rattle.machine.specs.Requests.{merge}
 use Rattle.machine.specs.Steps.{pass, stop}
 use Rattle.machine.specs.Stops.{atBounds, atKind, atStanding, reachable, Refusal}
 use Rattle.machine.specs.Writes.{oneMore, opened, reissue, vacated, write}
 use Rattle.machine.proofs.Decided.{Passed}
-use Rattle.machine.proofs.TableLaws.{length-put}
 use Rattle.issuing.specs.Issued.{issuedAs}
-use Rattle.table.specs.Left.{Left, leftBy}
+use Rattle.table.specs.Left.{leftBy}
 use Rattle.table.specs.States.{retotalled, stateAs}
 use Rattle.table.specs.declared.state.StateWords.{StateWords}
 use Rattle.issuing.specs.declared.writes.Issued.{Issued}
@@ -36,7 +35,7 @@ use Rattle.table.proofs.FitLaws.{at-fits}
 use Rattle.rulings.specs.Rulings.{ended, frontOn, givingOne, handed, innerOn, refusing, ruled, tokensOn}
 use Rattle.rulings.specs.declared.reply.Outcome.{Outcome}
 use Rattle.rulings.proofs.RulingLaws.{front, front-passed, left-ruled, spent-ruled}
-use Rattle.segments.proofs.SegmentLaws.{both-hold, four-hold}
+use Rattle.segments.proofs.SegmentLaws.{both-hold, four-hold, vacating}
 
 module _ (m : ℕ) (s : State) (t : List ℕ) (j k u c : ℕ) where
   -- place 1, with the tokens read as a and b
@@ -110,7 +109,7 @@ named-pair m s t j k u c h =
       first = omega arith;
       second = size-in t (numberOf k) (search);
       small = omega arith;
-      sum = omega (arith, reached-inside m t (numberOf j) (search) (search), reached-inside m t (numberOf k) (search) (search));
+      sum = omega (arith, reached-inside m t (numberOf j) (search) (search) (search), reached-inside m t (numberOf k) (search) (search) (search));
       rights = at-fits t (numberOf j) .permissions;
       encoded = leb-true c 3 (search);
       next = leb-true (s .next) spent (search);
@@ -118,10 +117,6 @@ named-pair m s t j k u c h =
 
 pub mergeable : (m : ℕ) (s : State) (t : List ℕ) (j k u c n i : ℕ) → frontOn m s t (merge j k u c) [] ≡ pass → n ≡ numberOf j → i ≡ numberOf k → Mergeable s t n i c
 mergeable m s t j k u c n i h isFirst isSecond = rw (isFirst, isSecond) (named-pair m s t j k u c h)
-
--- the second is still there once the first is issued
-pub second-in : (s : State) (t : List ℕ) (n i c : ℕ) (whole : ℕ → Entry) (a : Left) → a ≡ leftBy (write c (opened s t) (reissue n whole)) → 32 * i + 32 ≤ length t → 32 * i + 32 ≤ length (a .table)
-second-in s t n i c whole a left h = omega (arith, ap (λ (y : Left). length (y .table)) left ∙ length-put _ _ _)
 
 -- ---- what is handed back, where the entries of numbers n and i are d and e, and the nonce that is found for what they become
 
@@ -143,5 +138,5 @@ module _ (s : StateWords) (t : List ℕ) (j k c n i : ℕ) (d e whole : Entry) (
   merge-grants h a total t₁ t₂ left more freed done =
       left-ruled (stateAs s) t g (omega (arith, next)) _
       (rw (done, freed, more)
-      (ap (λ (y : Left). record { state = totalled (y .state) (oneMore (mostFree (y .table)) i (y .state .total)); table = vacated (y .table) i; reply = granted (y .tokens) 0 0 }) left
+      (ap (vacating i) left
       ∙ rw (over, first, second, isFirst, isSecond)))

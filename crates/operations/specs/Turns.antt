@@ -14,7 +14,7 @@ use Rattle.accesses.specs.Ways.{wayAs}
 use Rattle.operations.specs.declared.serve.Accessing.{Accessing}
 use Rattle.operations.specs.declared.serve.Accessing.the-variants.{Other, Through}
 use Rattle.operations.specs.declared.serve.Request.{Request}
-use Rattle.operations.specs.declared.serve.Request.the-variants.{Clone, Create, Derive, Drop, Dump, ExecuteOnly, Fetch, Load, Lock, Merge, Read, Reset, Revoke, Unlock, Write}
+use Rattle.operations.specs.declared.serve.Request.the-variants.{Clone, Create, Derive, Drop, Dump, ExecuteOnly, Fetch, Load, Lock, Merge, PageIn, PageOut, Read, Reset, Revoke, Unlock, Write}
 
 -- the request in the machine's terms, with the leases that are lent with it, and the call that brings a buffer with it
 abbrev pub requestAs : Request → (leases : List ℕ) → request.Request
@@ -33,6 +33,8 @@ requestAs (Unlock k u) ls = request.unlock k u
 requestAs (Revoke k c) ls = request.revoke k c
 requestAs (Load k u i) ls = request.load k u (shiftAs i ls)
 requestAs (Dump k u i) ls = request.dump k u (shiftAs i ls)
+requestAs (PageOut k u f c) ls = request.pageOut k u f c
+requestAs (PageIn j k u c) ls = request.pageIn j k u c
 
 -- r tells the way of the request q, if it is an access
 abbrev pub Accesses : Accessing → Request → Type 0

@@ -2,6 +2,7 @@
 pub mod access;
 pub mod image;
 pub mod lock;
+pub mod page;
 pub mod reference;
 pub mod segment;
 pub mod serve;

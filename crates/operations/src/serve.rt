@@ -4,13 +4,16 @@ use accesses::access::Way;
 use accesses::access::access;
 use images::image::serve_dump;
 use images::image::serve_load;
+use paging::page::serve_in;
+use paging::page::serve_out;
 use rulings::reply::Outcome;
 ghost use mathlib.Core.Path.{_≡_};
 ghost use Rattle.machine.specs.Steps.{answer, step};
 ghost use Rattle.operations.specs.Turns.{Accesses, after, answered, before, callAs, requestAs};
 
-// A request with all that it carries. An access has its bytes, a load and a dump their text, in the
-// buffer that is lent with it, and all five their leases in a table of their own.
+// A request with all that it carries. An access has its bytes, a load and a dump their text, and what
+// pages out or in a segment's bytes, in the buffer that is lent with it; the first five have their
+// leases in a table of their own.
 pub enum Request {
     Reset {
         key0: u64,
@@ -85,6 +88,18 @@ pub enum Request {
         task: u64,
         minute: u64,
     },
+    PageOut {
+        token: u64,
+        task: u64,
+        page: u64,
+        encoding: u64,
+    },
+    PageIn {
+        token: u64,
+        donor: u64,
+        task: u64,
+        encoding: u64,
+    },
 }
 
 // A request that is an access, with its way, or another one.
@@ -137,7 +152,7 @@ fn way_of(request: Request) -> Accessing
 }
 
 impl State {
-    // Serves any request by its own method; a load and a dump by what those do, as functions over one buffer.
+    // Serves any request by its own method; loads and dumps, and what pages out and in, by what those do, as functions over one buffer.
     fn operate(
         mut self,
         request: Request,
@@ -206,6 +221,24 @@ impl State {
             } => {
                 let words = self.words;
                 serve_dump(words, table, memory, buffer, leases, token, task, minute)
+            }
+            Request::PageOut {
+                token,
+                task,
+                page,
+                encoding,
+            } => {
+                let words = self.words;
+                serve_out(words, table, memory, buffer, token, task, page, encoding)
+            }
+            Request::PageIn {
+                token,
+                donor,
+                task,
+                encoding,
+            } => {
+                let words = self.words;
+                serve_in(words, table, memory, buffer, token, donor, task, encoding)
             }
             Request::Create {
                 token,

@@ -70,7 +70,7 @@ module _ (m : ℕ) (s : State) (t : List ℕ) (k o l p c : ℕ) where
     sum = let a : Passed (front m s t (derive k o l p c) []) = all in leb-true _ _ (search)
 
     inside : at t (numberOf k) .base + at t (numberOf k) .length ≤ mostMemory
-    inside = let a : Passed (front m s t (derive k o l p c) []) = all in segment-inside m t (numberOf k) (search) (search) (search)
+    inside = let a : Passed (front m s t (derive k o l p c) []) = all in segment-inside m t (numberOf k) (search) (search) (search) (search)
 
     pub derive-short : (l < 2 ^ 32) × ((o < 2 ^ 32) × (p < 8))
     derive-short = let a : Passed (front m s t (derive k o l p c) []) = all in (omega (arith, inside, sum), (omega (arith, inside, sum), omega (arith, leb-true p 7 (search))))

@@ -59,7 +59,7 @@ module _ (m : ℕ) (s : State) (t : List ℕ) (k c : ℕ) where
   pub execute-bears : frontOn m s t (executeOnly k c) [] ≡ pass → (new : ℕ) → new ≡ newNumber s t → Bearing s t (numberOf k) new 0 X c
   execute-bears h new found =
       let all : Passed (front m s t (executeOnly k c) []) = front-passed m s t (executeOnly k c) [] h in
-      let i = segment-inside m t (numberOf k) (search) (search) (search) in
+      let i = segment-inside m t (numberOf k) (search) (search) (search) (search) in
       child-bears s t k 0 X c new (front-limits m s t (executeOnly k c) [] own refl h) (search) (search) (search) (search) (omega arith) (omega arith) found
 
 -- the child is what is granted

@@ -11,7 +11,7 @@ use borrow.Author.Tests.{eqb-false, eqb-true, leb-true, ltb-true, ne-eqb, not-tr
 use Rattle.checks.specs.Holds.{requestHolds}
 use Rattle.checks.proofs.ReachLaws.{reached-inside}
 use Rattle.machine.specs.Issuing.{newNumber}
-use Rattle.machine.specs.Line.{isIll, lineOf}
+use Rattle.machine.specs.Line.{isIll, isPaged, lineOf}
 use Rattle.machine.specs.Parts.{at, mostMemory, size, State}
 use Rattle.machine.specs.Requests.{Request}
 use Rattle.machine.specs.Steps.{pass, stop}
@@ -57,8 +57,8 @@ module _ (m : ℕ) (s : State) (t : List ℕ) (q : Request) (b : List ℕ) (own 
   front-limits h = set-limits (front-true m s t q b h)
 
 -- an entry that is there and not ill-formed lies in memory
-pub segment-inside : (m : ℕ) (t : List ℕ) (n : ℕ) → leb m mostMemory ≡ true → not (eqb (at t n .kind) 0) ≡ true → not (isIll (lineOf m t n)) ≡ true → at t n .base + at t n .length ≤ mostMemory
-segment-inside m t n h full formed = omega (arith, leb-true m mostMemory h, reached-inside m t n full formed)
+pub segment-inside : (m : ℕ) (t : List ℕ) (n : ℕ) → leb m mostMemory ≡ true → not (eqb (at t n .kind) 0) ≡ true → not (isPaged (at t n)) ≡ true → not (isIll (lineOf m t n)) ≡ true → at t n .base + at t n .length ≤ mostMemory
+segment-inside m t n h full here formed = omega (arith, leb-true m mostMemory h, reached-inside m t n full here formed)
 
 -- a number that is found stands in the table
 pub new-in : (s : State) (t : List ℕ) → Limits s t → not (eqb (newNumber s t) 0) ≡ true → (32 * newNumber s t + 32 ≤ length t) × (newNumber s t < 1024)

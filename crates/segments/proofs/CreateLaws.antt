@@ -19,7 +19,7 @@ use Rattle.checks.specs.declared.refusal.Refusal.the-variants.{Nonces}
 use Rattle.checks.proofs.ReachLaws.{reach-in}
 use Rattle.machine.specs.Issuing.{issue, newNumber, otherNonce}
 use Rattle.machine.specs.Operations.{book, Grant, grantCreate, granted, namedEntry, numberOf, partOf, restOf}
-use Rattle.machine.specs.Parts.{at, mostFree, moved, put, size, spent, State, totalled}
+use Rattle.machine.specs.Parts.{at, mostFree, moved, put, size, spent, State}
 use Rattle.machine.specs.Requests.{create}
 use Rattle.machine.specs.Steps.{pass, stop, Verdict}
 use Rattle.machine.specs.Stops.{atBounds, atKind, atRight, atStanding, places, sizes}
@@ -42,7 +42,7 @@ use Rattle.rulings.specs.Rulings.{ended, frontOn, givingOne, givingTwo, handed,
 use Rattle.rulings.specs.declared.reply.Outcome.{Outcome}
 use Rattle.rulings.proofs.AllotLaws.{limits, new-in, segment-inside}
 use Rattle.rulings.proofs.RulingLaws.{front, front-passed, front-tokens, left-ruled, request-true, spent-ruled}
-use Rattle.segments.proofs.SegmentLaws.{both-hold}
+use Rattle.segments.proofs.SegmentLaws.{both-hold, vacating}
 
 -- a test that always holds
 and-true : (a b c : Bool) → c ≡ true → (a && b) ≡ (a && c && b)
@@ -127,7 +127,7 @@ module _ (m : ℕ) (s : State) (t : List ℕ) (k u l x p c : ℕ) (h : frontOn m
         inside = create-in;
         small = omega (arith, set .most);
         part = leb-true _ _ (search);
-        end = omega (arith, segment-inside m t (numberOf k) (search) (search) (search));
+        end = omega (arith, segment-inside m t (numberOf k) (search) (search) (search) (search));
         permitted = omega arith;
         rights = at-fits t (numberOf k) .permissions;
         encoded = leb-true c 3 (search);
@@ -170,7 +170,7 @@ module _ (s : StateWords) (t : List ℕ) (k l x p c : ℕ) (n : Named) (e part :
     whole-grants h a i t₁ t₂ gave more freed done =
         left-ruled (stateAs s) t g (omega (arith, whole-next)) _
         (rw (done, freed, more)
-        (ap (λ (y : Left). record { state = totalled (y .state) (oneMore (mostFree (y .table)) (n .number) (y .state .total)); table = vacated (y .table) (n .number); reply = granted (y .tokens) 0 0 }) gave
+        (ap (vacating (n .number)) gave
         ∙ rw (cut, there, is, test)))
 
   -- there is a rest, and the nonces are those of f
@@ -192,14 +192,14 @@ module _ (s : StateWords) (t : List ℕ) (k l x p c : ℕ) (n : Named) (e part :
     two-next = rw untest
 
     pub rest-spent : spent ≤ f .second .nonce → r ≡ refusing s Nonces → handed r t ≡ ruled (ended (stateAs s) t g)
-    rest-spent h done = let end = found .none h in spent-ruled s t g (omega (arith, two-next, rw (over, cut, here, is, number) at end)) r done
+    rest-spent h done = let end = found .none h (newNumber (stateAs s) t) (oneLess (s .total)) in spent-ruled s t g (omega (arith, two-next, rw (over, cut, here, is, number) at end)) r done
 
     pub rest-grants : f .second .nonce < spent → (b : IssuedTwo) (t₂ : List ℕ)
         → issuedTwoAs b t₂ ≡ leftBy (written c (opened (stateAs s) t) (give (dated part) ∷ reissue (n .number) (dated rest) ∷ []))
         → r ≡ givingTwo (b .state) (b .first) (b .second) → handed r t₂ ≡ ruled (ended (stateAs s) t g)
     rest-grants h b t₂ left done =
         let first : f .first .nonce ≡ ν = found .one h .nonce ∙ rw (cut, here, number) in
-        let second = found .two h .nonce in
+        let second = found .two h (newNumber (stateAs s) t) (oneLess (s .total)) .nonce in
         left-ruled (stateAs s) t g (omega (arith, two-next, rw (over, cut, here, is, first, number) at second)) _
         (rw done
         (ap (λ (y : Left). record { state = y .state; table = y .table; reply = granted (y .tokens) 0 0 }) left

@@ -76,7 +76,7 @@ revocable m s t k c h =
     let i : numberOf k < length t / 32 = ltb-true _ _ (search) in
     let most : length t / 32 ≤ 1024 = leb-true _ _ (search) in
     record {
-      segment = reached-inside m t (numberOf k) (search) (search);
+      segment = reached-inside m t (numberOf k) (search) (search) (search);
       issuable = record { inside = omega arith; laid = laidDirect refl };
       small = omega arith;
       encoded = leb-true c 3 (search);

@@ -20,11 +20,11 @@ use Rattle.layout.specs.declared.entry.Entry.{Entry}
 use Rattle.layout.proofs.EntryLaws.{indirect-at, indirectRead, shared-read}
 use Rattle.layout.proofs.FormLaws.{ill-as}
 use Rattle.layout.proofs.WordLaws.{words-read}
-use Rattle.machine.specs.Line.{lineOf, linked, links, parentNumber, parentTag}
+use Rattle.machine.specs.Line.{isPaged, lineOf, linked, links, parentNumber, parentTag}
 use Rattle.machine.specs.Parts.{at}
 use Rattle.table.specs.Cuts.{Above, Bounded, cutWords, passes, swapped}
 use Rattle.table.specs.declared.cut.Cut.{Cut}
-use Rattle.table.proofs.LineLaws.{linked-older, walk-up}
+use Rattle.table.proofs.LineLaws.{linked-here, linked-older, walk-up}
 
 -- ---- the parts make the words
 
@@ -218,15 +218,20 @@ passed m room s b h =
 difference : (x d t n : ℕ) → t < 2 ^ 16 → n < 2 ^ 32 → (x + t * 4294967296) % 2 ^ 64 ≡ d % 2 ^ 48 → x < n → (d / 2 ^ 32 % 2 ^ 16 ≡ t) × (d % 2 ^ 32 < n)
 difference x d t n ht hn h l = (omega arith, omega arith)
 
-pub above-told : (p s : Cut) (x : ℕ) → (x + s .a / 2 ^ 11 % 2 ^ 16 * 4294967296) % 2 ^ 64 ≡ p .d % 2 ^ 48 → (not (eqb (p .a / 2 ^ 61) 0) && ltb x (s .d % 2 ^ 32)) ≡ true → Above p s
-above-told p s x h b =
+-- and one below 2^62 tells two types
+two-types : (y a : ℕ) → (y + 2 ^ 61) % 2 ^ 64 ≡ a → y < 2 ^ 62 → (a / 2 ^ 61 ≡ 0 → ⊥) × (a / 2 ^ 61 ≡ 3 → ⊥)
+two-types y a h l = (λ z. omega arith, λ z. omega arith)
+
+pub above-told : (p s : Cut) (x y : ℕ) → (x + s .a / 2 ^ 11 % 2 ^ 16 * 4294967296) % 2 ^ 64 ≡ p .d % 2 ^ 48 → (y + 2 ^ 61) % 2 ^ 64 ≡ p .a → (ltb y (2 ^ 62) && ltb x (s .d % 2 ^ 32)) ≡ true → Above p s
+above-told p s x y h i b =
     let two = both _ _ b in
+    let type = two-types y (p .a) i (ltb-true _ _ (two .0)) in
     let q = difference x (p .d) (s .a / 2 ^ 11 % 2 ^ 16) (s .d % 2 ^ 32) (mod-lt (s .a / 2 ^ 11) (pow-pos 16)) (mod-lt (s .d) (pow-pos 32)) h (ltb-true _ _ (two .1)) in
-    record { full = eqb-false _ _ (not-true _ (two .0)); tagged = q .0; older = q .1 }
+    record { full = type .0; here = type .1; tagged = q .0; older = q .1 }
 
 -- a link, from what stands in the parts
-link-holds : (p e : Entry) → (p .kind ≡ 0 → ⊥) → p .tag ≡ parentTag e → p .nonce < e .nonce → links p e ≡ true
-link-holds p e a b c = rw (ne-eqb (p .kind) 0 a, eq-eqb (p .tag) (parentTag e) b, lt-ltb (p .nonce) (e .nonce) c)
+link-holds : (p e : Entry) → (p .kind ≡ 0 → ⊥) → (p .kind ≡ 3 → ⊥) → p .tag ≡ parentTag e → p .nonce < e .nonce → links p e ≡ true
+link-holds p e a o b c = rw (ne-eqb (p .kind) 0 a, ne-eqb (p .kind) 3 o, eq-eqb (p .tag) (parentTag e) b, lt-ltb (p .nonce) (e .nonce) c)
 
 -- the parts are those of the entry at a byte
 abbrev pub Parted : List ℕ → ℕ → Cut → Type 0
@@ -238,15 +243,16 @@ pub record Climbing (m : ℕ) (t : List ℕ) (n room byte : ℕ) (s : Cut) : Typ
   pub inside : byte + 32 ≤ length t
   pub parts : Parted t byte s
   pub same : lineOf m t n ≡ lineOf m t (byte / 32)
+  pub here : isPaged (at t (byte / 32)) ≡ false
   pub bytes : room ≡ length t / 32 * 32
 
 pub whole-at : (n : ℕ) → 32 * n % 32 ≡ 0
 whole-at n = omega arith
 
-pub climb-start : (m : ℕ) (t : List ℕ) (n : ℕ) (s : Cut) → 32 * n + 32 ≤ length t → Parted t (32 * n) s → Climbing m t n (length t / 32 * 32) (32 * n) s
-climb-start m t n s h p =
+pub climb-start : (m : ℕ) (t : List ℕ) (n : ℕ) (s : Cut) → 32 * n + 32 ≤ length t → isPaged (at t n) ≡ false → Parted t (32 * n) s → Climbing m t n (length t / 32 * 32) (32 * n) s
+climb-start m t n s h o p =
     let back : 32 * n / 32 ≡ n = omega arith in
-    record { whole = omega arith; inside = h; parts = p; same = ap (lineOf m t) (sym back); bytes = refl }
+    record { whole = omega arith; inside = h; parts = p; same = ap (lineOf m t) (sym back); here = rw back o; bytes = refl }
 
 module _ (m : ℕ) (t : List ℕ) (n room byte : ℕ) (s : Cut) (inv : Climbing m t n room byte s) where
   pub climb-number : 32 * (byte / 32) + 32 ≤ length t
@@ -273,7 +279,7 @@ module _ (m : ℕ) (t : List ℕ) (n room byte : ℕ) (s : Cut) (inv : Climbing 
           let ν : p .d % 2 ^ 32 ≡ o .nonce = ap (λ (x : ℕ). x % 2 ^ 32) (sym (div-one (p .d))) ∙ ap (λ (x : Entry). x .nonce) sh in
           ap (λ (x : ℕ). links (at t x) (entryOf (wordsNumber (cutWords s)))) (as-passed .number)
           ∙ ap (λ (x : Entry). links x (entryOf (wordsNumber (cutWords s)))) (sym (parts .1))
-          ∙ link-holds o (entryOf (wordsNumber (cutWords s))) (λ q. up .full (kind ∙ q)) (sym tag ∙ up .tagged ∙ sym (as-passed .tag)) (rw (← ν, as-passed .nonce) (up .older))
+          ∙ link-holds o (entryOf (wordsNumber (cutWords s))) (λ q. up .full (kind ∙ q)) (λ q. up .here (kind ∙ q)) (sym tag ∙ up .tagged ∙ sym (as-passed .tag)) (rw (← ν, as-passed .nonce) (up .older))
 
       pub climb-less : at t (s .up / 32) .nonce < at t (byte / 32) .nonce
       climb-less = rw (← as-passed .number, ← inv .parts .1) (linked-older t (entryOf (wordsNumber (cutWords s))) cut-linked)
@@ -285,6 +291,7 @@ module _ (m : ℕ) (t : List ℕ) (n room byte : ℕ) (s : Cut) (inv : Climbing 
             whole = climb-in .0;
             inside = climb-in .1;
             parts = parts;
-            same = walk-up m t n (byte / 32) (entryOf (wordsNumber (cutWords s))) false (inv .same) (inv .parts .1) (sym (as-passed .formed)) true (s .up / 32) (sym cut-linked) (sym (as-passed .number)) refl (λ q. absurd (omega (arith, two, q))) refl;
+            same = walk-up m t n (byte / 32) (entryOf (wordsNumber (cutWords s))) false (inv .same) (inv .parts .1) (sym (as-passed .formed)) (inv .here) true (s .up / 32) (sym cut-linked) (sym (as-passed .number)) refl (λ q. absurd (omega (arith, two, q))) refl;
+            here = rw (← as-passed .number) (linked-here t (entryOf (wordsNumber (cutWords s))) cut-linked);
             bytes = inv .bytes;
           }

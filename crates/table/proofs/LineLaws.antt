@@ -10,7 +10,7 @@ use lib.ListN.{length}
 use borrow.Author.Tests.{eq-eqb, ne-eqb}
 use Rattle.layout.specs.Form.{illFormed}
 use Rattle.layout.specs.declared.entry.Entry.{Entry}
-use Rattle.machine.specs.Line.{dead, ill, Line, lineOf, linked, links, owner, parentNumber, walk}
+use Rattle.machine.specs.Line.{dead, ill, isPaged, Line, lineOf, linked, links, owner, pagedOut, parentNumber, walk}
 use Rattle.machine.specs.Parts.{at, size}
 use Rattle.machine.proofs.Basics.{link}
 use Rattle.machine.proofs.Fuel.{line-enough}
@@ -19,7 +19,10 @@ use Rattle.machine.proofs.TableLaws.{at-out, in-table}
 -- ---- a link
 
 pub linked-in : (t : List ℕ) (e : Entry) → linked t e ≡ true → parentNumber e < size t
-linked-in t e h = in-table t (parentNumber e) (link e (at t (parentNumber e)) h .full)
+linked-in t e h = in-table t (parentNumber e) (link e (at t (parentNumber e)) h .present .full)
+
+pub linked-here : (t : List ℕ) (e : Entry) → linked t e ≡ true → isPaged (at t (parentNumber e)) ≡ false
+linked-here t e h = ne-eqb _ 3 (link e (at t (parentNumber e)) h .present .here)
 
 pub linked-older : (t : List ℕ) (e : Entry) → linked t e ≡ true → at t (parentNumber e) .nonce < e .nonce
 linked-older t e h = link e (at t (parentNumber e)) h .older
@@ -34,12 +37,12 @@ under : {A : Type 0} (b : Bool) (x y z : A) → (b ≡ true → x ≡ y) → con
 under true x y z h = h refl
 under false x y z h = refl
 
-line-step : (m : ℕ) (t : List ℕ) (n : ℕ) → lineOf m t n ≡ cond (illFormed m (at t n)) (ill n) (cond (eqb (at t n .kind) 1) (owner n) (cond (linked t (at t n)) (lineOf m t (parentNumber (at t n))) (dead n)))
+line-step : (m : ℕ) (t : List ℕ) (n : ℕ) → lineOf m t n ≡ cond (illFormed m (at t n)) (ill n) (cond (eqb (at t n .kind) 1) (owner n) (cond (isPaged (at t n)) (pagedOut n) (cond (linked t (at t n)) (lineOf m t (parentNumber (at t n))) (dead n))))
 unfolding walk
 line-step m t n =
     let e : Entry = at t n in
     let p : ℕ = parentNumber e in
-    ap (λ (l : Line). cond (illFormed m e) (ill n) (cond (eqb (e .kind) 1) (owner n) l))
+    ap (λ (l : Line). cond (illFormed m e) (ill n) (cond (eqb (e .kind) 1) (owner n) (cond (isPaged e) (pagedOut n) l)))
     (under (linked t e) (walk (e .nonce) m t p) (lineOf m t p) (dead n) (λ l. line-enough (e .nonce) m t p (linked-older t e l)))
 
 -- the ways out of a walk that has come from entry n to entry k
@@ -50,16 +53,19 @@ module _ (m : ℕ) (t : List ℕ) (n k : ℕ) (e : Entry) (b : Bool) (inv : line
   pub walk-owner : b ≡ false → e .kind ≡ 1 → owner k ≡ lineOf m t n
   walk-owner h d = sym (inv ∙ line-step m t k ∙ rw (← is, ← form, h, eq-eqb _ _ d))
 
-  pub walk-dead : (l : Bool) → l ≡ linked t e → b ≡ false → (e .kind ≡ 1 → ⊥) → l ≡ false → dead k ≡ lineOf m t n
-  walk-dead l q h d z = sym (inv ∙ line-step m t k ∙ rw (← is, ← form, h, ne-eqb _ _ d, ← q, z))
+  pub walk-dead : isPaged (at t k) ≡ false → (l : Bool) → l ≡ linked t e → b ≡ false → (e .kind ≡ 1 → ⊥) → l ≡ false → dead k ≡ lineOf m t n
+  walk-dead o l q h d z = sym (inv ∙ line-step m t k ∙ rw (o, ← is, ← form, h, ne-eqb _ _ d, ← q, z))
 
-  pub walk-up : (l : Bool) (p : ℕ) → l ≡ linked t e → p ≡ parentNumber e → b ≡ false → (e .kind ≡ 1 → ⊥) → l ≡ true → lineOf m t n ≡ lineOf m t p
-  walk-up l p q r h d y = inv ∙ line-step m t k ∙ rw (← is, ← form, h, ne-eqb _ _ d, ← q, y, ← r)
+  pub walk-up : isPaged (at t k) ≡ false → (l : Bool) (p : ℕ) → l ≡ linked t e → p ≡ parentNumber e → b ≡ false → (e .kind ≡ 1 → ⊥) → l ≡ true → lineOf m t n ≡ lineOf m t p
+  walk-up o l p q r h d y = inv ∙ line-step m t k ∙ rw (o, ← is, ← form, h, ne-eqb _ _ d, ← q, y, ← r)
 
 -- the parent p of entry k is in the table and older
 module _ (t : List ℕ) (k p : ℕ) (e : Entry) (l : Bool) (is : e ≡ at t k) (q : l ≡ linked t e) (r : p ≡ parentNumber e) (y : l ≡ true) where
   pub walk-less : at t p .nonce < at t k .nonce
   walk-less = rw (r, ← is) (linked-older t e (sym q ∙ y))
+
+  pub walk-here : isPaged (at t p) ≡ false
+  walk-here = rw r (linked-here t e (sym q ∙ y))
 
   pub walk-in : 32 * p + 32 ≤ length t
   unfolding size

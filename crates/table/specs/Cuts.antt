@@ -48,8 +48,9 @@ passes m room s =
     && leb (s .a / 2 ^ 29 % 2 ^ 32 + s .len / 32) m
     && ltb (s .up) room
 
--- p has the tag that s names, is older and not free
+-- p has the tag that s names, is older, and direct or indirect
 pub record Above (p s : Cut) : Type 0 where
   pub full : p .a / 2 ^ 61 ≡ 0 → ⊥
+  pub here : p .a / 2 ^ 61 ≡ 3 → ⊥
   pub tagged : p .d / 2 ^ 32 % 2 ^ 16 ≡ s .a / 2 ^ 11 % 2 ^ 16
   pub older : p .d % 2 ^ 32 < s .d % 2 ^ 32

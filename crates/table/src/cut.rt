@@ -103,12 +103,13 @@ pub(crate) fn passes(memory: u64, room: u64, c: Cut) -> bool
         & (c.up < room)
 }
 
-// The entry p has the tag that c names, is older and not free. Tag and nonce are told by one
-// difference: below c's nonce only if the tags are the same.
+// The entry p has the tag that c names, is older, and direct or indirect. Tag and nonce are told by
+// one difference: below c's nonce only if the tags are the same; and types 1 and 2, counted from 1 on, by another.
 pub(crate) fn above(p: Cut, c: Cut) -> bool
     ensures { λ r. ⌜ (r ≡ true → Above p c) ⌝ }
 {
     let tag = (c.a >> 11) % (1 << 16) * 4294967296;
     let rest = wrapping_sub_u64(p.d % (1 << 48), tag);
-    (p.a >> 61 != 0) & (rest < c.d % (1 << 32))
+    let from_direct = wrapping_sub_u64(p.a, 1 << 61);
+    (from_direct < 1 << 62) & (rest < c.d % (1 << 32))
 }

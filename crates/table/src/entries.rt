@@ -6,6 +6,7 @@ use layout::entry::read_words;
 use layout::entry::write_words;
 ghost use mathlib.Core.Path.{_≡_};
 ghost use Prim.Native.Nat.{_+_, _*_, _≤_};
+ghost use lib.Dec.{eqb};
 ghost use lib.ListN.{length};
 ghost use Rattle.layout.specs.Entry.{entryOf, wordsNumber};
 ghost use Rattle.machine.specs.Parts.{at};
@@ -19,6 +20,13 @@ pub fn entry_at(table: &[u8], n: usize) -> Entry
     let start = 32 * n;
     let end = start + 32;
     load(&table[start..end])
+}
+
+// The entry has the tag.
+pub fn has_tag(e: Entry, tag: u64) -> bool
+    ensures { λ r. ⌜ r ≡ eqb (e .tag) tag ⌝ }
+{
+    (e.tag as u64) == tag
 }
 
 // Its four words, for whoever needs only some of its fields.

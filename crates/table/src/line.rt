@@ -3,17 +3,22 @@ use crate::cut::above;
 use crate::cut::cut_at;
 use crate::cut::passes;
 use crate::entries::entry_at;
+use crate::entries::has_tag;
+use crate::entries::words_at;
 use forms::form::ill_formed;
 use layout::entry::Entry;
+use layout::entry::kind_of;
 use tokens::token::Encoding1;
 ghost use mathlib.Core.Path.{_≡_};
+ghost use mathlib.Core.Bool.{false};
 ghost use Prim.Native.Nat.{_+_, _*_, _≤_};
 ghost use lib.ListN.{length};
-ghost use Rattle.machine.specs.Line.{endOf, lineOf, linked, links, parentNumber};
+ghost use Rattle.machine.specs.Line.{endOf, isPaged, lineOf, linked, links, parentNumber};
+ghost use Rattle.machine.specs.Parts.{at};
 ghost use Rattle.table.specs.Lines.{lineAs};
 
 // What a walk up a line ends at: the owner, the entry that holds a missing link, or an ill-formed
-// entry.
+// entry. It does not start at an entry that is paged out, and meets none.
 pub enum Line {
     Owner(usize),
     Dead(usize),
@@ -33,7 +38,8 @@ fn links(p: Entry, e: Entry) -> bool
     ensures { λ r. ⌜ r ≡ links p e ⌝ }
 {
     let named = Encoding1::unpacked(e.parent);
-    (p.kind != 0) & ((p.tag as u64) == named.tag) & (p.nonce < e.nonce)
+    let tagged = has_tag(p, named.tag);
+    (p.kind != 0) & (p.kind != 3) & tagged & (p.nonce < e.nonce)
 }
 
 // The link of the entry e to its parent holds.
@@ -48,9 +54,18 @@ pub fn linked(table: &[u8], e: Entry) -> bool
     }
 }
 
+// The entry of number n is paged out.
+pub fn is_paged(table: &[u8], n: usize) -> bool
+    requires { ⌜ 32 * n + 32 ≤ length (now table) ⌝ }
+    ensures { λ r. ⌜ r ≡ isPaged (at (now (table .entry)) n) ⌝ }
+{
+    kind_of(words_at(table, n)) == 3
+}
+
 // The end of the line of entry n, in a memory of so many bytes, whatever the entries are.
 fn trace(table: &[u8], memory: u64, n: usize) -> Line
     requires { ⌜ 32 * n + 32 ≤ length (now table) ⌝ }
+    requires { ⌜ isPaged (at (now table) n) ≡ false ⌝ }
     ensures { λ r. ⌜ lineAs r ≡ lineOf memory (now (table .entry)) n ⌝ }
     ensures { λ r. ⌜ 32 * endOf (lineAs r) + 32 ≤ length (now (table .entry)) ⌝ }
 {
@@ -74,6 +89,7 @@ fn trace(table: &[u8], memory: u64, n: usize) -> Line
 // The same, quick where entry n is direct.
 fn ended(table: &[u8], memory: u64, n: usize) -> Line
     requires { ⌜ 32 * n + 32 ≤ length (now table) ⌝ }
+    requires { ⌜ isPaged (at (now table) n) ≡ false ⌝ }
     ensures { λ r. ⌜ lineAs r ≡ lineOf memory (now (table .entry)) n ⌝ }
     ensures { λ r. ⌜ 32 * endOf (lineAs r) + 32 ≤ length (now (table .entry)) ⌝ }
 {
@@ -93,8 +109,10 @@ fn ended(table: &[u8], memory: u64, n: usize) -> Line
 // the number of the first that is not passed, whose line ends where that of entry n does.
 fn climb(table: &[u8], memory: u64, n: usize) -> usize
     requires { ⌜ 32 * n + 32 ≤ length (now table) ⌝ }
+    requires { ⌜ isPaged (at (now table) n) ≡ false ⌝ }
     ensures { λ r. ⌜ lineOf memory (now (table .entry)) r ≡ lineOf memory (now (table .entry)) n ⌝ }
     ensures { λ r. ⌜ 32 * r + 32 ≤ length (now (table .entry)) ⌝ }
+    ensures { λ r. ⌜ isPaged (at (now (table .entry)) r) ≡ false ⌝ }
 {
     let room = table.len() / 32 * 32;
     let mut byte = 32 * n;
@@ -114,6 +132,7 @@ fn climb(table: &[u8], memory: u64, n: usize) -> usize
 // The end of the line of entry n, in a memory of so many bytes.
 pub fn walk(table: &[u8], memory: u64, n: usize) -> Line
     requires { ⌜ 32 * n + 32 ≤ length (now table) ⌝ }
+    requires { ⌜ isPaged (at (now table) n) ≡ false ⌝ }
     ensures { λ r. ⌜ lineAs r ≡ lineOf memory (now (table .entry)) n ⌝ }
     ensures { λ r. ⌜ 32 * endOf (lineAs r) + 32 ≤ length (now (table .entry)) ⌝ }
 {

@@ -7,7 +7,7 @@ use native.Mathlib.Nat.{mul-one, add-zero}
 use native.Mathlib.Omega.{arith}
 use lib.ListN.{length}
 use Rattle.bits.specs.Fields.{pack, Fit}
-use Rattle.layout.specs.Entry.{bit, dated, directNumber, entryNumber, entryOf, indirectNumber, Laid, laidDirect, laidIndirect, wordList, wordsNumber, wordWidths}
+use Rattle.layout.specs.Entry.{bit, dated, directNumber, entryNumber, entryOf, indirectNumber, Laid, laidDirect, laidIndirect, laidPaged, pagedNumber, wordList, wordsNumber, wordWidths}
 use Rattle.layout.specs.Tag.{retag}
 use Rattle.layout.specs.declared.entry.Entry.{Entry}
 use Rattle.layout.specs.declared.entry.Words.{Words}
@@ -23,15 +23,23 @@ record Above (e : Entry) : Type 0 where
   high : ℕ
   is : (g ν : ℕ) → entryNumber (retag (dated e ν) g) ≡ high * 2 ^ 48 + (g * 2 ^ 32 + ν)
 
+-- the first fields of what all entries end with
+abbrev flags : Entry → List ℕ
+flags e = e .permissions ∷ bit (e .locked) ∷ bit (e .lockable) ∷ bit (e .cow) ∷ []
+
 above : (e : Entry) → Laid (e .kind) → Above e
-unfolding directNumber indirectNumber
+unfolding directNumber indirectNumber pagedNumber
 above e (laidDirect k) =
     let ws : List ℕ = 3 ∷ 32 ∷ 32 ∷ 16 ∷ 55 ∷ 64 ∷ 3 ∷ 1 ∷ 1 ∷ 1 ∷ [] in
-    let vs : List ℕ = 1 ∷ e .base ∷ e .length ∷ e .count ∷ e .holder ∷ e .user ∷ e .permissions ∷ bit (e .locked) ∷ bit (e .lockable) ∷ bit (e .cow) ∷ [] in
+    let vs : List ℕ = 1 ∷ e .base ∷ e .length ∷ e .count ∷ e .holder ∷ e .user ∷ flags e in
     record { high = pack ws vs; is = λ g ν. number-as (retag (dated e ν) g) k ∙ last-two ws vs g ν refl }
 above e (laidIndirect k) =
     let ws : List ℕ = 3 ∷ 32 ∷ 64 ∷ 32 ∷ 16 ∷ 55 ∷ 3 ∷ 1 ∷ 1 ∷ 1 ∷ [] in
-    let vs : List ℕ = 2 ∷ e .base ∷ e .parent ∷ e .length ∷ e .count ∷ e .zeros ∷ e .permissions ∷ bit (e .locked) ∷ bit (e .lockable) ∷ bit (e .cow) ∷ [] in
+    let vs : List ℕ = 2 ∷ e .base ∷ e .parent ∷ e .length ∷ e .count ∷ e .zeros ∷ flags e in
+    record { high = pack ws vs; is = λ g ν. number-as (retag (dated e ν) g) k ∙ last-two ws vs g ν refl }
+above e (laidPaged k) =
+    let ws : List ℕ = 3 ∷ 64 ∷ 32 ∷ 39 ∷ 64 ∷ 3 ∷ 1 ∷ 1 ∷ 1 ∷ [] in
+    let vs : List ℕ = 3 ∷ e .page ∷ e .length ∷ e .zeros ∷ e .user ∷ flags e in
     record { high = pack ws vs; is = λ g ν. number-as (retag (dated e ν) g) k ∙ last-two ws vs g ν refl }
 
 -- the last of four words

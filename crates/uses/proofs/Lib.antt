@@ -1,5 +1,6 @@
 pub mod Images
 pub mod Kept
+pub mod Pages
 pub mod Recorded
 pub mod Shifts
 pub mod Totals

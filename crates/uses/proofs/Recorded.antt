@@ -7,7 +7,7 @@ use Rattle.bits.specs.SipHash.{absorb, add64, compress, finish, padded, rotl, s
 use Rattle.hex.specs.Record.{byte, digit, malformed, verdict, wrongSum}
 use Rattle.hex.specs.Text.{lines, read, said}
 use Rattle.hex.specs.Written.{capital, dataRecords, lineOf, written}
-use Rattle.layout.specs.Entry.{directNumber, directOf, entryNumber, entryOf, freeNumber, indirectNumber, indirectOf}
+use Rattle.layout.specs.Entry.{directNumber, directOf, entryNumber, entryOf, freeNumber, indirectNumber, indirectOf, pagedNumber, pagedOf}
 use Rattle.layout.specs.Form.{illFormed}
 use Rattle.layout.specs.Tag.{tagOf}
 use Rattle.leases.specs.Lease.{allSound, covers, firstLeases, isOpen, leaseAt, leasesOf}
@@ -22,9 +22,9 @@ use Rattle.machine.specs.Recordings.{limitsAbove, sessionsAbove, sessionsKept}
 use Rattle.machine.specs.Steps.{answer, decide, step}
 
 pub sessions-above-agree : Recorded sessionsAbove limitsAbove
-unfolding bytes number lowBytes lowNumber directNumber directOf entryNumber entryOf freeNumber indirectNumber indirectOf illFormed allSound covers firstLeases isOpen leaseAt leasesOf within absorb add64 compress finish padded rotl siphash sipRound word tagOf passOver seek walk climb at cleared put size decide step answer byte digit malformed verdict wrongSum lines read said capital dataRecords lineOf written piecesOf spares
+unfolding bytes number lowBytes lowNumber directNumber directOf entryNumber entryOf freeNumber indirectNumber indirectOf pagedNumber pagedOf illFormed allSound covers firstLeases isOpen leaseAt leasesOf within absorb add64 compress finish padded rotl siphash sipRound word tagOf passOver seek walk climb at cleared put size decide step answer byte digit malformed verdict wrongSum lines read said capital dataRecords lineOf written piecesOf spares
 sessions-above-agree = (refl, refl)
 
 pub sessions-kept-agree : Recorded sessionsKept []
-unfolding bytes number lowBytes lowNumber directNumber directOf entryNumber entryOf freeNumber indirectNumber indirectOf illFormed within absorb add64 compress finish padded rotl siphash sipRound word tagOf passOver seek walk climb at cleared put size decide
+unfolding bytes number lowBytes lowNumber directNumber directOf entryNumber entryOf freeNumber indirectNumber indirectOf pagedNumber pagedOf illFormed within absorb add64 compress finish padded rotl siphash sipRound word tagOf passOver seek walk climb at cleared put size decide
 sessions-kept-agree = (refl, refl)

@@ -14,6 +14,7 @@ mod locks;
 mod merges;
 mod nonces;
 mod operations;
+mod paging;
 mod passed;
 mod plain;
 mod rest;
@@ -70,10 +71,17 @@ pub const ALL: &[Kind] = &[
         shifts::play,
         "leases at their ends, others' and bad ones, and each refusal",
     ),
+    kind("paging", 120, paging::play, "segments paged out and in, each check with each later one"),
+    kind(
+        "paged",
+        60,
+        paging::entries,
+        "paged entries in each operation, as parents, and ill-formed",
+    ),
     kind("whole", 60, whole::play, "create of a whole segment, of the root's, and what is after"),
     kind("sums", 60, sums::play, "lengths and offsets whose sums lie at or beyond a limit"),
     kind("encodings", 60, encodings::play, "each token in all encodings, one bit off, with offset"),
-    kind("operations", 10, operations::play, "operations above 14"),
+    kind("operations", 10, operations::play, "operations above 16"),
     kind("images", 80, images::play, "loads of right and wrong HEX text, and dumps"),
     kind(
         "limits",

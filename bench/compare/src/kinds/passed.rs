@@ -2,7 +2,7 @@
 //! is planted where the number stands, in use or free; or it comes about after a reset, with a key or
 //! a part found by search. Plenty of nonces are left, or just enough, or too few.
 
-use bridge::{Operation, Words};
+use bridge::{Argument, Operation, Words};
 use session::entry::{self, Entry, SIZE};
 use session::token::{self, Token};
 use session::{Step, World};
@@ -14,6 +14,10 @@ use crate::{free, tag, wild, worlds};
 
 const MEMORY: u64 = 64;
 const ENTRIES: usize = 4;
+
+/// How many bytes the two segments have.
+const LONG: u64 = 16;
+const SHORT: u64 = 8;
 
 /// The next nonce where plenty are left, behind those of handed-over entries.
 const PLENTY: u64 = 5;
@@ -28,20 +32,43 @@ enum Way {
     Whole,
     Merge,
     Revoke,
+    /// A page-out's paged entry, and the segment that it leaves.
+    Out,
+    Left,
+    In,
 }
 
-const WAYS: [Way; 7] =
-    [Way::Derive, Way::ExecuteOnly, Way::Part, Way::Rest, Way::Whole, Way::Merge, Way::Revoke];
+const WAYS: [Way; 10] = [
+    Way::Derive,
+    Way::ExecuteOnly,
+    Way::Part,
+    Way::Rest,
+    Way::Whole,
+    Way::Merge,
+    Way::Revoke,
+    Way::Out,
+    Way::Left,
+    Way::In,
+];
 
 impl Way {
     /// How many nonces its request needs.
     fn needs(self) -> u64 {
-        1 + u64::from(matches!(self, Way::Part | Way::Rest))
+        1 + u64::from(matches!(self, Way::Part | Way::Rest | Way::Out | Way::Left))
     }
 
     /// Which of the request's issues it is.
     fn place(self) -> usize {
-        usize::from(self == Way::Rest)
+        usize::from(matches!(self, Way::Rest | Way::Left))
+    }
+
+    /// How many bytes its request's buffer has.
+    fn buffer(self) -> u64 {
+        match self {
+            Way::Out | Way::Left => LONG,
+            Way::In => SHORT,
+            _ => 0,
+        }
     }
 }
 
@@ -52,16 +79,19 @@ pub fn play(player: &mut Player) {
         }
         elsewhere(player, way);
     }
-    for spare in [None, Some(2), Some(1)] {
-        both(player, spare);
+    for way in [Way::Part, Way::Out] {
+        for spare in [None, Some(2), Some(1)] {
+            both(player, way, spare);
+        }
     }
     let way = player.dice.one_of(&WAYS);
     for spare in [None, Some(2), Some(1)] {
         twice(player, way, spare);
     }
     twice(player, Way::Part, Some(0));
-    never_used(player, &[Way::Derive, Way::ExecuteOnly, Way::Part, Way::Whole]);
-    never_used(player, &[Way::Rest, Way::Revoke]);
+    twice(player, Way::Out, Some(0));
+    never_used(player, &[Way::Derive, Way::ExecuteOnly, Way::Part, Way::Whole, Way::Left]);
+    never_used(player, &[Way::Rest, Way::Revoke, Way::Out]);
     alike(player);
     after_reset(player);
     freed_and_given(player);
@@ -72,6 +102,7 @@ pub fn play(player: &mut Player) {
 struct Scene {
     world: World,
     request: Words,
+    buffer: Vec<u8>,
     /// The two segments, one behind the other.
     segments: [usize; 2],
 }
@@ -88,15 +119,19 @@ fn scene(player: &mut Player, way: Way, next_nonce: u64) -> Scene {
     }
     let one = player.dice.index(ENTRIES);
     let two = (one + 1 + player.dice.index(ENTRIES - 1)) % ENTRIES;
-    for (number, (base, length)) in [(one, (8, 16)), (two, (24, 8))] {
-        let entry = Entry::direct(base, length).with(entry::USER, player.dice.word());
+    let segments = [Entry::direct(8, LONG), Entry::direct(8 + LONG, SHORT)];
+    let paged = [Entry::paged(player.dice.word(), SHORT), segments[1]];
+    let entries = if way == Way::In { paged } else { segments };
+    for (number, entry) in [one, two].into_iter().zip(entries) {
+        let entry = entry.with(entry::USER, player.dice.word());
         let entry = entry.with(entry::TAG, player.dice.below(1 << 16)).with(entry::NONCE, 1);
         entry.with(entry::LOCKABLE, player.dice.below(2)).store(&mut world.table, number);
     }
     let last = player.dice.index(ENTRIES) as u64;
     world.state = worlds::handed(player, &world.table, last, next_nonce);
     let request = request(player, way, &world, [one, two]);
-    Scene { world, request, segments: [one, two] }
+    let buffer = player.dice.bytes(way.buffer() as usize);
+    Scene { world, request, buffer, segments: [one, two] }
 }
 
 /// A request by which a way issues, if nothing speaks against it.
@@ -121,6 +156,8 @@ fn request(player: &mut Player, way: Way, world: &World, [one, two]: [usize; 2])
         }
         Way::Merge => Words { second: named(two, 1), ..of(Operation::Merge) },
         Way::Revoke => of(Operation::Revoke),
+        Way::Out | Way::Left => Words { second: player.dice.word(), ..of(Operation::PageOut) },
+        Way::In => Words { second: named(two, 1), ..of(Operation::PageIn) },
     }
 }
 
@@ -128,8 +165,8 @@ impl Scene {
     /// The numbers that the request issues, in their order, with the entries that they get.
     fn issued(&self) -> Vec<(usize, Entry)> {
         let (mut world, from) = (self.world.clone(), self.world.state.next_nonce);
-        let step = Step { request: self.request, buffer: Vec::new(), leases: Vec::new() };
-        step.serve(&mut world);
+        let (request, buffer) = (self.request, self.buffer.clone());
+        Step { request, buffer, leases: Vec::new() }.serve(&mut world);
         let entries = (0..ENTRIES).map(|number| (number, Entry::of(&world.table, number)));
         let new = |entry: &Entry| !entry.is_free() && entry.get(entry::NONCE) >= from;
         let mut issued: Vec<(usize, Entry)> = entries.filter(|(_, entry)| new(entry)).collect();
@@ -148,7 +185,9 @@ impl Scene {
             _ => word,
         };
         self.request.token = named(self.request.token);
-        if self.request.operation == Operation::Merge as u64 {
+        let of_two = Operation::of(self.request.operation)
+            .is_some_and(|operation| operation.takes(Argument::SecondToken));
+        if of_two {
             self.request.second = named(self.request.second);
         }
     }
@@ -162,8 +201,8 @@ impl Scene {
 
     fn ask(self, player: &mut Player) {
         player.begin(self.world);
-        player.ask(self.request);
-        player.ask(self.request);
+        player.ask_with(self.request, self.buffer.clone());
+        player.ask_with(self.request, self.buffer);
     }
 }
 
@@ -188,8 +227,9 @@ fn elsewhere(player: &mut Player, way: Way) {
     let [one, two] = scene.segments;
     let other = match way {
         Way::Part | Way::Whole => one,
-        Way::Rest => issued[0].0,
-        Way::Merge => two,
+        Way::Rest | Way::Left => issued[0].0,
+        Way::Out => issued.get(1).map_or(two, |(number, _)| *number),
+        Way::Merge | Way::In => two,
         // A child's tag hashes its parent's.
         _ => (0..ENTRIES).find(|other| other != number && *other != one).unwrap_or(two),
     };
@@ -197,9 +237,9 @@ fn elsewhere(player: &mut Player, way: Way) {
     scene.ask(player);
 }
 
-/// A create whose part and rest each pass over a nonce.
-fn both(player: &mut Player, spare: Option<u64>) {
-    let mut scene = scene(player, Way::Part, next_nonce(Way::Part, spare));
+/// A create whose part and rest each pass over a nonce; or a page-out whose two issues do.
+fn both(player: &mut Player, way: Way, spare: Option<u64>) {
+    let mut scene = scene(player, way, next_nonce(way, spare));
     scene.plant(0);
     scene.plant(1);
     scene.ask(player);
@@ -232,7 +272,9 @@ fn never_used(player: &mut Player, ways: &[Way]) {
         Entry::direct(0, MEMORY).store(&mut world.table, 0);
         world.state = worlds::handed(player, &world.table, 0, next_nonce(way, spare));
         let request = request(player, way, &world, [0, 0]);
-        let scene = Scene { world, request, segments: [0, 0] };
+        let whole = if way.buffer() == 0 { 0 } else { MEMORY as usize };
+        let buffer = player.dice.bytes(whole);
+        let scene = Scene { world, request, buffer, segments: [0, 0] };
         let issued = scene.issued();
         let Some((number, entry)) = issued.get(way.place()) else { return };
         let nonce = entry.get(entry::NONCE);
@@ -240,8 +282,8 @@ fn never_used(player: &mut Player, ways: &[Way]) {
         let key = found::key(key, |key| tag::issued(entry, key, *number, nonce) == 0);
         player.begin(worlds::zeros(2, MEMORY));
         player.reset(key, scene.world.state.next_nonce);
-        player.ask(request);
-        player.ask(request);
+        player.ask_with(request, scene.buffer.clone());
+        player.ask_with(request, scene.buffer);
     }
 }
 

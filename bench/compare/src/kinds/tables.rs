@@ -33,9 +33,10 @@ fn table(player: &mut Player, entries: usize, memory: usize) -> World {
 fn any(player: &mut Player, table: &[u8], entries: usize, memory: u64) -> Entry {
     let base = player.dice.below(memory);
     let length = player.dice.between(1, memory - base);
-    let entry = match player.dice.below(5) {
-        0 => return Entry([0; entry::SIZE]),
-        1 | 2 => direct(player, base, length),
+    let entry = match player.dice.below(11) {
+        0 | 1 => return Entry([0; entry::SIZE]),
+        2 => return paged(player, length),
+        3..=6 => direct(player, base, length),
         _ => Entry::indirect(base, length, parent(player, table, entries)),
     };
     let count = player.dice.one_of(&[0, 0, 1, 1, 2, 65_535]);
@@ -54,6 +55,21 @@ fn direct(player: &mut Player, base: u64, length: u64) -> Entry {
     let holder = player.dice.one_of(&[0, 0, 0, 1, 7]);
     let entry = Entry::direct(base, length).locked_for(holder);
     entry.with(entry::USER, player.dice.word()).with(entry::LOCKABLE, player.dice.below(3).min(1))
+}
+
+/// An entry that is paged out, which has no count: now and then with a fault of form.
+fn paged(player: &mut Player, length: u64) -> Entry {
+    let entry = Entry::paged(player.dice.word(), length).with(entry::USER, player.dice.word());
+    let entry = entry.with(entry::TAG, player.dice.below(4));
+    let entry = entry.with(entry::NONCE, player.dice.below(20));
+    let entry = entry.with(entry::PERMISSIONS, player.dice.one_of(&[7, 7, 4, 0]));
+    match player.dice.below(20) {
+        0 => entry.with_length(0),
+        1 => entry.with(entry::COPY_ON_WRITE, 1),
+        2 => entry.with(entry::LOCKED, 1),
+        3 => entry.with(entry::PAGED_ZEROS, 1 << player.dice.below(39)),
+        _ => entry,
+    }
 }
 
 /// A parent's token: mostly one that is right for what stands at that number so far.

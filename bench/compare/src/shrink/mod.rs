@@ -3,6 +3,7 @@
 //! the same one. What is taken was shown by a machine that remembers no session before it.
 
 mod leases;
+mod pages;
 mod requests;
 mod shrinker;
 mod simpler;
@@ -45,6 +46,7 @@ impl Shrinker<'_> {
         self.leave_out_requests();
         self.simpler_leases();
         self.simpler_words();
+        self.shorter_pages();
         self.smaller_buffers();
         self.leave_out_links();
         self.leave_out_givers();

@@ -75,12 +75,16 @@ fn gives(part: &Part) -> bool {
 }
 
 /// A draft without a giver; behind it each token of its is the first one that was given last. With
-/// `all`, so is each token of those behind it whose own token was its.
+/// `all`, so is each token of those behind it whose own token was its. Behind a reset a token from before
+/// it is the same by chance, and counts as its.
 fn chained_without(draft: &Draft, at: usize, all: bool) -> Draft {
     let mut draft = draft.clone();
     let gone = draft.parts.remove(at);
     let mut its_names = vec![gone.name];
     let mut last = draft.parts[..at].iter().rfind(|part| gives(part)).map(|part| part.name);
+    if gone.is_reset() {
+        its_names.extend(draft.parts[..at].iter().map(|part| part.name));
+    }
     for part in &mut draft.parts[at..] {
         let its = match part.token {
             Source::Given { part: giver, .. } => its_names.contains(&giver),

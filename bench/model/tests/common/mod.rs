@@ -3,6 +3,7 @@
 
 use model::operation::*;
 use model::{serve, Answer, Request, State};
+use std::hash::Hasher;
 
 #[derive(Clone, Debug, PartialEq, Eq)]
 pub struct Rig {
@@ -31,14 +32,18 @@ impl Rig {
 
     /// Serves one request, and sees to it that a refusal changes nothing and
     /// carries neither token nor number, that only a dump tells a length, that
-    /// leases stop accesses only, that the total is corrected by what the
-    /// table shows, and that a number freed keeps its tag and a number issued
-    /// gets another.
+    /// leases stop accesses only, that a page-in never meets 17, that the total
+    /// is corrected by what the table shows, and that a number freed keeps its
+    /// tag and a number issued gets another.
     pub fn ask_with(&mut self, request: Request, buffer: &mut [u8]) -> Answer {
         let before = (self.clone(), buffer.to_vec());
         let Rig { state, table, memory, leases, .. } = self;
         let answer = serve(request, state, table, memory, buffer, leases);
-        assert!(answer.refusal <= if is_access(request.operation) { 16 } else { 14 });
+        assert!(match answer.refusal {
+            15 | 16 => is_access(request.operation),
+            17 => ![RESET, PAGE_IN].contains(&request.operation),
+            refusal => refusal <= 14,
+        });
         if answer.refusal != 0 {
             assert_eq!(before, (self.clone(), buffer.to_vec()));
             assert_eq!((answer.first, answer.second, answer.dropped), (0, 0, 0));
@@ -145,6 +150,23 @@ impl Rig {
         Ok(buffer)
     }
 
+    /// The two tokens of a page-out and the bytes that went out.
+    pub fn page_out(&mut self, token: u64, page_file: u64, room: usize) -> (Answer, Vec<u8>) {
+        let mut buffer = vec![0xB5; room];
+        let request =
+            Request { operation: PAGE_OUT, token, second: page_file, ..Request::default() };
+        let answer = self.ask_with(request, &mut buffer);
+        (answer, buffer)
+    }
+
+    pub fn page_in(&mut self, token: u64, donor: u64, bytes: &[u8]) -> Answer {
+        let mut buffer = bytes.to_vec();
+        let request = Request { operation: PAGE_IN, token, second: donor, ..Request::default() };
+        let answer = self.ask_with(request, &mut buffer);
+        assert_eq!(buffer, bytes);
+        answer
+    }
+
     /// A field of an entry by its place in Table 2, from the top bit.
     pub fn bits(&self, number: usize, from: usize, width: usize) -> u64 {
         (from..from + width).fold(0, |value, at| {
@@ -209,7 +231,12 @@ impl Rig {
     }
 
     pub fn length(&self, number: usize) -> u64 {
-        self.bits(number, if self.kind(number) == 1 { 35 } else { 99 }, 32)
+        let at = match self.kind(number) {
+            1 => 35,
+            3 => 67,
+            _ => 99,
+        };
+        self.bits(number, at, 32)
     }
 
     fn count_at(&self, number: usize) -> usize {
@@ -234,6 +261,19 @@ impl Rig {
 
     pub fn user(&self, number: usize) -> u64 {
         self.bits(number, 138, 64)
+    }
+
+    pub fn page_file(&self, number: usize) -> u64 {
+        self.bits(number, 3, 64)
+    }
+
+    /// Makes a paged entry of what stands at a number, with its tag and nonce.
+    pub fn set_paged(&mut self, number: usize, length: u64) {
+        self.set(number, 0, 3, 3);
+        self.set(number, 3, 64, u64::MAX);
+        self.set(number, 67, 32, length);
+        self.set(number, 99, 39, 0);
+        self.set(number, 205, 1, 0);
     }
 
     pub fn parent(&self, number: usize) -> u64 {
@@ -277,6 +317,20 @@ pub fn freed(token: u64) -> [u8; 32] {
     let mut entry = [0; 32];
     entry[26..28].copy_from_slice(&((token >> 46) as u16).to_be_bytes());
     entry
+}
+
+/// The tag that what stands at a number would have under a nonce, by the
+/// library's SipHash-2-4: "the entry as issued with tag 0, then the number as
+/// 8 bytes, low byte first".
+#[allow(deprecated)]
+pub fn tag_under(rig: &Rig, number: usize, nonce: u64) -> u64 {
+    let mut entry = rig.entry(number).to_vec();
+    entry[26..28].fill(0);
+    entry[28..].copy_from_slice(&(nonce as u32).to_be_bytes());
+    let mut hasher = std::hash::SipHasher::new_with_keys(rig.state.key0, rig.state.key1);
+    hasher.write(&entry);
+    hasher.write(&(number as u64).to_le_bytes());
+    hasher.finish() & 0xFFFF
 }
 
 /// The eight bytes of a lease on a token in encoding 0.

@@ -19,7 +19,7 @@ nb serve
 
 Answers each line on the standard input by one line on the standard output, until the input ends:
 
-    northbridge 4                                   northbridge 4
+    northbridge 5                                   northbridge 5
     world TABLE MEMORY KEY0 KEY1 LAST NEXT TOTAL    ok
     table AT BYTES                                  ok
     memory AT BYTES                                 ok

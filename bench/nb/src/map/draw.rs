@@ -43,7 +43,9 @@ fn push_row(text: &mut String, row: &Row, segment: &Range<u64>, style: Style) {
     match row.kind {
         Kind::Segment | Kind::Gap | Kind::End => push_segment(text, row, style),
         Kind::Derived => push_derived(text, row, segment, style),
-        Kind::Dead | Kind::UnderIllFormed | Kind::IllFormed => push_apart(text, row, style),
+        Kind::Paged | Kind::Dead | Kind::UnderIllFormed | Kind::IllFormed => {
+            push_apart(text, row, style);
+        }
     }
 }
 
@@ -68,10 +70,12 @@ fn push_derived(text: &mut String, row: &Row, segment: &Range<u64>, style: Style
     push_wrong(text, row, style);
 }
 
-/// An entry that has no place in memory, with the reason.
+/// An entry that has no place in memory, with the reason where something is wrong.
 fn push_apart(text: &mut String, row: &Row, style: Style) {
-    let reason = style.wrong(row.wrong.as_deref().unwrap_or(""));
-    let _ = writeln!(text, "    {}: {}\n        {reason}", row.title, row.words);
+    let _ = writeln!(text, "    {}: {}", row.title, row.words);
+    if let Some(reason) = &row.wrong {
+        let _ = writeln!(text, "        {}", style.wrong(reason));
+    }
 }
 
 fn push_rule(text: &mut String, address: u64, title: &str) {

@@ -7,22 +7,34 @@ use session::text::{number_text, permissions_text};
 
 /// Of a segment's own entry.
 pub fn segment_text(entry: &Entry) -> String {
-    let (length, user) = (entry.field(Field::Length), entry.field(Field::User));
-    let mut text = format!("{length} bytes, {}", rights(entry));
-    if entry.field(Field::Lockable) != 0 {
-        text.push_str(", Lockable");
-    }
+    let length = entry.field(Field::Length);
+    format!("{length} bytes, {}{}{}", rights(entry), own(entry), issued(entry))
+}
+
+/// Of an entry that is paged out, which has no count.
+fn paged_text(entry: &Entry) -> String {
+    let (length, file) = (entry.field(Field::Length), entry.field(Field::PageFile));
+    let (file, rights) = (number_text(file), letters(entry));
+    format!("{length} bytes at page {file}, {rights}{}{}", own(entry), issued(entry))
+}
+
+/// What a derived entry has not: Lockable and a user.
+fn own(entry: &Entry) -> String {
+    let (lockable, user) = (entry.field(Field::Lockable) != 0, entry.field(Field::User));
+    let mut text = if lockable { ", Lockable".to_string() } else { String::new() };
     if user != 0 {
         let _ = write!(text, ", user {}", number_text(user));
     }
-    text + &issued(entry)
+    text
 }
 
-/// Of any other entry, with its place in memory. Of an unknown type only that is told.
+/// Of any other entry, with its place in memory or its page-file number. Of an unknown type only that
+/// is told.
 pub fn place_text(entry: &Entry) -> String {
     let (base, length) = (entry.field(Field::Base), entry.field(Field::Length));
     match Type::of(entry.kind()) {
         None => format!("type {}", entry.kind()),
+        Some(_) if entry.kind() == entry::PAGED => paged_text(entry),
         Some(_) => {
             format!("{length} bytes at 0x{base:08x}, {}{}", rights(entry), issued(entry))
         }
@@ -31,10 +43,13 @@ pub fn place_text(entry: &Entry) -> String {
 
 /// Permissions as three places, and the count.
 fn rights(entry: &Entry) -> String {
+    format!("{}, count {}", letters(entry), entry.field(Field::Count))
+}
+
+fn letters(entry: &Entry) -> String {
     let held = permissions_text(entry.field(Field::Permissions));
     let letter = |letter: char| if held.contains(letter) { letter } else { '-' };
-    let letters: String = "RWX".chars().map(letter).collect();
-    format!("{letters}, count {}", entry.field(Field::Count))
+    "RWX".chars().map(letter).collect()
 }
 
 fn issued(entry: &Entry) -> String {

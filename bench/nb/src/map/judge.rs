@@ -1,4 +1,4 @@
-//! What each entry of a table is: free, ill-formed, a segment, or derived, alive or dead.
+//! What each entry of a table is: free, ill-formed, a segment, paged out, or derived, alive or dead.
 
 use session::entry::{self, Entry, Field};
 use session::token::{Token, PARENT_ENCODING};
@@ -8,6 +8,7 @@ pub enum Judged {
     Free,
     IllFormed(&'static str),
     Direct,
+    Paged,
     Indirect(Link),
 }
 
@@ -57,6 +58,7 @@ fn alone(entry: &Entry, memory: usize) -> Judged {
         (entry::FREE, _) => Judged::Free,
         (_, Some(fault)) => Judged::IllFormed(fault),
         (entry::DIRECT, _) => Judged::Direct,
+        (entry::PAGED, _) => Judged::Paged,
         _ => Judged::Indirect(Link::Dead { at: 0, reason: String::new() }),
     }
 }
@@ -66,15 +68,18 @@ fn fault(entry: &Entry, memory: usize) -> Option<&'static str> {
     let get = |field| entry.field(field);
     let (kind, end) = (entry.kind(), get(Field::Base) + get(Field::Length));
     let (direct, indirect) = (kind == entry::DIRECT, kind == entry::INDIRECT);
+    let paged = kind == entry::PAGED;
     let encoding = Token::unpack(get(Field::Parent)).encoding;
     let flags = get(Field::Locked) + get(Field::Lockable);
     let (holder, locked) = (get(Field::Holder) != 0, get(Field::Locked) != 0);
     let faults = [
-        (kind > entry::INDIRECT, "its type is above 2"),
+        (kind > entry::PAGED, "its type is above 3"),
         (get(Field::Length) == 0, "its length is 0"),
-        (end > memory as u64, "it ends past memory"),
+        (!paged && end > memory as u64, "it ends past memory"),
         (get(Field::Cow) != 0, "CoW is set"),
         (indirect && get(Field::Zeros) != 0, "a one stands among its 55 zeros"),
+        (paged && get(Field::Zeros) != 0, "a one stands among its 39 zeros"),
+        (paged && locked, "it is paged out, and Locked is set"),
         (indirect && flags != 0, "it is derived, and Locked or Lockable is set"),
         (indirect && encoding != PARENT_ENCODING, "its parent is not in encoding 1"),
         (direct && locked && !holder, "it is locked without a holder"),
@@ -99,6 +104,9 @@ fn link(entries: &[Entry], judged: &[Judged], number: usize) -> Link {
     if tag != parent.tag {
         let wanted = parent.tag;
         return dead(format!("its parent #{at} holds tag {tag:#06x}, not {wanted:#06x}"));
+    }
+    if above.kind() == entry::PAGED {
+        return dead(format!("its parent #{at} is paged out"));
     }
     let own = child.get(entry::NONCE);
     if nonce >= own {

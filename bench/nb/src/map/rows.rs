@@ -47,6 +47,7 @@ pub enum Kind {
     Gap,
     End,
     Derived,
+    Paged,
     Dead,
     UnderIllFormed,
     IllFormed,
@@ -59,6 +60,7 @@ impl Kind {
             Kind::Gap => "gap",
             Kind::End => "end",
             Kind::Derived => "derived",
+            Kind::Paged => "paged out",
             Kind::Dead => "dead",
             Kind::UnderIllFormed => "under an ill-formed entry",
             Kind::IllFormed => "ill-formed",
@@ -66,12 +68,13 @@ impl Kind {
     }
 
     /// The kinds of entries that have no place in memory, in the order in which they are told.
-    pub const APART: [Kind; 3] = [Kind::Dead, Kind::UnderIllFormed, Kind::IllFormed];
+    pub const APART: [Kind; 4] = [Kind::Paged, Kind::Dead, Kind::UnderIllFormed, Kind::IllFormed];
 
     fn of(judged: &Judged) -> Option<Kind> {
         match judged {
             Judged::Free => None,
             Judged::Direct => Some(Kind::Segment),
+            Judged::Paged => Some(Kind::Paged),
             Judged::Indirect(Link::Alive { .. }) => Some(Kind::Derived),
             Judged::Indirect(Link::Dead { .. }) => Some(Kind::Dead),
             Judged::Indirect(Link::IllFormed { .. }) => Some(Kind::UnderIllFormed),
@@ -248,7 +251,7 @@ impl View<'_> {
         }
     }
 
-    /// Entries that have no place in memory, with the reason.
+    /// Entries that have no place in memory, with the reason where something is wrong.
     fn push_apart(&self, rows: &mut Vec<Row>, kind: Kind) {
         for number in self.all(Some(kind)) {
             let wrong = self.judged[number].reason().map(str::to_string);

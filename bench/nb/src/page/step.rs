@@ -51,20 +51,30 @@ fn stop_json(stop: Stop) -> Json {
 }
 
 /// The bytes that a request reads or writes, if its number is one of the table: those of an access, of
-/// a load's data, or all for a dump.
+/// a load's data, or all for a dump and a page-out; of a page-in all that the donor has.
 fn touched(played: &Played) -> Option<Range<u64>> {
     let Played { request, before, buffer, .. } = played;
     let token = Token::unpack(request.token);
     let entry = Entry::at(&before.table, usize::try_from(token.number).ok()?)?;
+    let entry = match Operation::of(request.operation)? {
+        Operation::PageIn => donor(played)?,
+        _ => entry,
+    };
     entry.place(Field::Base)?;
     let reach = match Operation::of(request.operation)?.buffer() {
         Buffer::Unused => return None,
         Buffer::Filled | Buffer::Brought => token.offset..token.offset + buffer.len() as u64,
         Buffer::Text => hex::read(buffer).ok()?.reach?,
-        Buffer::Front => 0..entry.length(),
+        Buffer::Front | Buffer::Out | Buffer::In => 0..entry.length(),
     };
     let base = entry.field(Field::Base);
     Some(base + reach.start..base + reach.end)
+}
+
+/// The entry whose segment a page-in fills.
+fn donor(played: &Played) -> Option<Entry> {
+    let number = Token::unpack(played.request.second).number;
+    Entry::at(&played.before.table, usize::try_from(number).ok()?)
 }
 
 /// The map; of its rows only those that differ from the ones before, and how many stay at the front

@@ -14,7 +14,7 @@ use super::parse_expected::expected;
 use super::script::Ask;
 use super::words;
 use crate::world::Step;
-use bridge::{Argument, Buffer, Operation, Words};
+use bridge::{Argument, Operation, Words};
 
 /// What is expected where a request begins.
 static REQUEST: LazyLock<String> = LazyLock::new(|| {
@@ -76,8 +76,8 @@ fn operation(cursor: &mut Cursor, names: &HashSet<String>) -> Result<Ask, Error>
 /// length stands, the error is handed back, for the case that no buffer is given either.
 fn transfer(cursor: &mut Cursor, ask: &mut Ask) -> Result<Option<Error>, Error> {
     match Operation::of(ask.words.operation).map(Operation::buffer) {
-        Some(Buffer::Brought | Buffer::Text) => ask.buffer = bytes::read(cursor)?,
-        Some(Buffer::Filled | Buffer::Front) => {
+        Some(buffer) if buffer.is_brought() => ask.buffer = bytes::read(cursor)?,
+        Some(buffer) if buffer.is_written() => {
             let is_number = |word| words::number(word).is_some() || words::is_too_wide(word);
             if !cursor.peek().is_some_and(is_number) {
                 return Ok(Some(cursor.error("the number of bytes, or 'buffer' and the bytes")));
@@ -85,7 +85,7 @@ fn transfer(cursor: &mut Cursor, ask: &mut Ask) -> Result<Option<Error>, Error> 
             let length = cursor.up_to(LIMIT as u64, "the number of bytes")?;
             ask.buffer = vec![FILL; length as usize];
         }
-        Some(Buffer::Unused) | None => {}
+        _ => {}
     }
     Ok(None)
 }

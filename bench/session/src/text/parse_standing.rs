@@ -64,8 +64,8 @@ fn parts_text() -> String {
     }
 }
 
-/// `entry NUMBER` with `free`, `free tag TAG`, `bytes BYTES`, `direct FIELDS`, `indirect FIELDS` or
-/// fields alone.
+/// `entry NUMBER` with `free`, `free tag TAG`, `bytes BYTES`, `direct FIELDS`, `indirect FIELDS`,
+/// `paged FIELDS` or fields alone.
 fn entry_line(cursor: &mut Cursor, sizes: Sizes) -> Result<Standing, Error> {
     let entries = sizes.table / entry::SIZE;
     let Some(last) = entries.checked_sub(1) else {

@@ -148,8 +148,8 @@ fn leading(ask: &Ask, operation: Option<Operation>) -> String {
     }
     text += &unused_text(operation, Argument::Token, &ask.token);
     text += &transferred(ask, operation);
-    if takes(Argument::Minute) {
-        text += &second_number(Argument::Minute, &ask.second);
+    for number in [Argument::Minute, Argument::PageFile].into_iter().filter(|own| takes(*own)) {
+        text += &second_number(number, &ask.second);
     }
     text + &unused_text(operation, Argument::SecondToken, &ask.second)
 }
@@ -194,9 +194,9 @@ fn is_filled(ask: &Ask) -> bool {
 /// The buffer, where it does not stand in front.
 fn trailing_buffer(ask: &Ask, operation: Option<Operation>) -> String {
     let in_front = match operation.map_or(Buffer::Unused, Operation::buffer) {
-        Buffer::Filled | Buffer::Front => is_filled(ask),
-        Buffer::Brought | Buffer::Text => true,
-        Buffer::Unused => ask.buffer.is_empty(),
+        buffer if buffer.is_written() => is_filled(ask),
+        buffer if buffer.is_brought() => true,
+        _ => ask.buffer.is_empty(),
     };
     if in_front {
         String::new()
@@ -344,7 +344,7 @@ fn entry_text(line: &EntryLine) -> String {
 
 fn always_shown(field: Field) -> bool {
     use Field::*;
-    matches!(field, Base | Length | Parent | Count | Permissions | Tag | Nonce)
+    matches!(field, PageFile | Base | Length | Parent | Count | Permissions | Tag | Nonce)
 }
 
 /// In a whole entry a flag stands alone.

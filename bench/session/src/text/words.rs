@@ -155,6 +155,7 @@ pub fn field_of(word: &str) -> Option<Field> {
 /// The word of a field.
 pub fn field_name(field: Field) -> &'static str {
     match field {
+        Field::PageFile => "page-file",
         Field::Base => "base",
         Field::Length => "length",
         Field::Parent => "parent",

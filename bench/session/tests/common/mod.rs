@@ -107,9 +107,9 @@ impl Dice {
         });
         let state = State::from_order([(); State::WORDS].map(|()| self.some_word()));
         let (mut table, memory) = (self.bytes(table), self.bytes(memory));
-        // Types 1 and 2 are written by their fields.
+        // Types 1 to 3 are written by their fields.
         for part in table.chunks_mut(32).step_by(2) {
-            part[0] = part[0] & 0x1F | (1 + self.below(2) as u8) << 5;
+            part[0] = part[0] & 0x1F | (1 + self.below(3) as u8) << 5;
         }
         let steps = (0..self.below(8)).map(|_| self.step()).collect();
         Session { world: World { state, table, memory }, steps }

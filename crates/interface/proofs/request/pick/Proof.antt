@@ -5,8 +5,8 @@ use Rattle.interface.proofs.WordLaws.{beyond, picked-none}
 use Rattle.interface.proofs.request.pick.Statement.{statement}
 use Rattle.interface.proofs.request.pick.Tie as tie
 
-other : tie.Need-returns-16
-other c ls = picked-none _ _ _ _ _ _ _ _ _ (beyond 15 _ (c .match .rest))
+other : tie.Need-returns-18
+other c ls = picked-none _ _ _ _ _ _ _ _ _ (beyond 17 _ (c .match .rest))
 
 pub pick-spec : {M : Type 1} → statement M
 unfolding picked
@@ -28,4 +28,6 @@ pick-spec =
     (λ c ls. rw (c .match .keys13))
     (λ c ls. rw (c .match .keys14))
     (λ c ls. rw (c .match .keys15))
+    (λ c ls. rw (c .match .keys16))
+    (λ c ls. rw (c .match .keys17))
     other)

@@ -27,4 +27,4 @@ give-and-reissue-spec =
     let i = j .before .before .before .before .before in
     let a = i .before .before .before .before .before .before in
     let p = a .pre .0 in
-    rw (c .one-less .ensures) (two-left _ _ _ _ _ (entryOf (wordsNumber (a .args .first))) (entryOf (wordsNumber (a .args .second))) (a .args .new) _ _ _ _ (a .pre .1) (p .found) (p .left) (i .enter .ensures .0) (j .enter2 .ensures .0) (i .enter .ensures .1) (j .enter2 .ensures .1))))
+    rw (c .one-less .ensures, ← (a .pre .1)) (two-left _ _ _ _ _ _ _ _ _ (entryOf (wordsNumber (a .args .first))) (entryOf (wordsNumber (a .args .second))) (a .args .new) _ _ _ _ (p .found) (p .left) (i .enter .ensures .0) (j .enter2 .ensures .0) (i .enter .ensures .1) (j .enter2 .ensures .1))))

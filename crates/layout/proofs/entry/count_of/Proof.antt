@@ -3,7 +3,7 @@
 use mathlib.Core.Path.{ap}
 use borrow.Author.Needs.{needs}
 use Rattle.layout.specs.declared.entry.Entry.{Entry}
-use Rattle.layout.proofs.EntryLaws.{direct-at, directRead, indirect-at, indirectRead, other-at}
+use Rattle.layout.proofs.EntryLaws.{direct-at, directRead, indirect-at, indirectRead, no-base-at}
 use Rattle.layout.proofs.entry.count_of.Statement.{statement}
 use Rattle.layout.proofs.entry.count_of.Tie as tie
 
@@ -18,4 +18,4 @@ count-of-spec =
     (λ c. search needs)
     (λ c. ap (λ (e : Entry). e .count) (direct-at (c .before .before .before .args .w) (search needs) (c .before .match .keys1)))
     (λ c. ap (λ (e : Entry). e .count) (indirect-at (c .before .before .before .args .w) (search needs) (c .before .match .keys2)))
-    (λ c. ap (λ (e : Entry). e .count) (other-at (c .before .before .args .w) (search needs) (c .match .rest .0 .1) (c .match .rest .1))))
+    (λ c. no-base-at (c .before .before .args .w) (search needs) (c .match .rest .0 .1) (c .match .rest .1) .1))

@@ -10,9 +10,9 @@ returns : tie.Need-returns
 unfolding wordsNumber
 returns c =
     direct-words (c .before .before .before .before .before .args .e)
-    (c .before .before .before .first-word .ensures)
+    (c .before .before .before .field-word .ensures)
     (c .before .before .middle-word .ensures)
-    (c .before .direct-c .ensures)
+    (c .before .user-word .ensures)
     (c .last-word .ensures)
 
 pub direct-words-spec : {M : Type 1} → statement M

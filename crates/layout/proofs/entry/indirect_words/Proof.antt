@@ -2,7 +2,7 @@
 -- Assumes nothing.
 use borrow.Author.Needs.{needs}
 use Rattle.layout.specs.Entry.{wordsNumber}
-use Rattle.layout.proofs.EntryLaws.{indirect-words}
+use Rattle.layout.proofs.EntryLaws.{indirect-words, zeros-lt}
 use Rattle.layout.proofs.entry.indirect_words.Statement.{statement}
 use Rattle.layout.proofs.entry.indirect_words.Tie as tie
 
@@ -10,7 +10,7 @@ returns : tie.Need-returns
 unfolding wordsNumber
 returns c =
     indirect-words (c .before .before .before .before .before .args .e)
-    (c .before .before .before .first-word .ensures)
+    (c .before .before .before .field-word .ensures)
     (c .before .before .indirect-b .ensures)
     (c .before .middle-word .ensures)
     (c .last-word .ensures)
@@ -21,6 +21,6 @@ indirect-words-spec =
     (tie.spec
     (λ c κs. search needs)
     (λ c κs. search needs)
-    (λ c κs. search needs)
+    (λ c κs. zeros-lt _ (c .before .before .before .pre))
     (λ c κs. search needs)
     returns)

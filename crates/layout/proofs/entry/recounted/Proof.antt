@@ -2,7 +2,7 @@
 -- Assumes nothing.
 use mathlib.Core.Path.{refl}
 use borrow.Author.Needs.{needs}
-use Rattle.layout.proofs.EntryLaws.{other-words, recount-direct, recount-indirect}
+use Rattle.layout.proofs.EntryLaws.{other-words, recount-direct, recount-indirect, recount-paged}
 use Rattle.layout.proofs.entry.recounted.Statement.{statement}
 use Rattle.layout.proofs.entry.recounted.Tie as tie
 
@@ -16,4 +16,7 @@ recounted-spec =
     (λ c κs. search needs)
     (λ c. recount-direct (c .before .before .before .args .w) _ _ (search needs) (search needs) (search needs) (c .before .match .keys1) (c .with-count .ensures))
     (λ c. recount-indirect (c .before .before .before .args .w) _ _ (search needs) (search needs) (search needs) (c .before .match .keys2) (c .with-count2 .ensures))
-    (λ c. other-words (c .before .before .before .before .args .w) _ (search needs) (c .before .before .match .rest .0 .1) (c .before .before .match .rest .1) refl (c .before .tag-of .ensures) (c .free-words .ensures)))
+    (λ c. recount-paged (c .before .before .args .w) _ (search needs) (c .match .keys3))
+    (λ c.
+    let r = c .before .before .match .rest in
+    other-words (c .before .before .before .before .args .w) _ (search needs) (r .0 .0 .1) (r .0 .1) (r .1) refl (c .before .tag-of .ensures) (c .free-words .ensures)))

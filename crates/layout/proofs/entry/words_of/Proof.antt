@@ -3,7 +3,7 @@
 use mathlib.Core.Path.{refl, sym, _∙_}
 use borrow.Author.Needs.{needs}
 use Rattle.layout.specs.Entry.{wordsNumber}
-use Rattle.layout.proofs.EntryLaws.{as-free, number-as}
+use Rattle.layout.proofs.EntryLaws.{as-free, number-as, paged-zeros-lt}
 use Rattle.layout.proofs.entry.words_of.Statement.{statement}
 use Rattle.layout.proofs.entry.words_of.Tie as tie
 
@@ -14,7 +14,11 @@ words-of-spec =
     (tie.spec
     (λ c κs. search needs)
     (λ c κs. search needs)
+    (λ c κs. (c .before .pre .permissions, paged-zeros-lt (c .before .args .e) (c .before .pre) (c .match .keys3)))
     (λ c κs. search needs)
     (λ c. c .direct-words .ensures ∙ sym (number-as _ (c .before .match .keys1)))
     (λ c. c .indirect-words .ensures ∙ sym (number-as _ (c .before .match .keys2)))
-    (λ c. c .free-words .ensures ∙ as-free (c .before .before .args .e) (c .before .match .rest .0 .1) (c .before .match .rest .1)))
+    (λ c. c .paged-words .ensures ∙ sym (number-as _ (c .before .match .keys3)))
+    (λ c.
+    let r = c .before .match .rest in
+    c .free-words .ensures ∙ as-free (c .before .before .args .e) (r .0 .0 .1) (r .0 .1) (r .1)))

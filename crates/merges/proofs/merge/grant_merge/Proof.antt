@@ -6,7 +6,8 @@ use Rattle.entering.specs.Nonces.{Issuable}
 use Rattle.layout.specs.Entry.{dated, entryOf, laidDirect, wordsNumber}
 use Rattle.layout.specs.declared.entry.Entry.{Entry}
 use Rattle.table.specs.States.{stateAs}
-use Rattle.merges.proofs.MergeLaws.{merge-grants, merge-spent, Mergeable, mergeable, second-in}
+use Rattle.segments.proofs.SegmentLaws.{second-in}
+use Rattle.merges.proofs.MergeLaws.{merge-grants, merge-spent, Mergeable, mergeable}
 use Rattle.merges.proofs.merge.grant_merge.Statement.{statement}
 use Rattle.merges.proofs.merge.grant_merge.Tie as tie
 

@@ -1,4 +1,4 @@
--- `table::cut::above` meets its contract: one difference tells tag and nonce.
+-- `table::cut::above` meets its contract: one difference tells tag and nonce, and another the type.
 -- Assumes nothing.
 use borrow.Author.Needs.{needs}
 use Rattle.table.proofs.CutLaws.{above-told}
@@ -13,8 +13,10 @@ above-spec =
     (λ c. search needs)
     (λ c. search needs)
     (λ c κs. search needs)
+    (λ c κs. search needs)
     (λ c. search needs)
     (λ c h.
-    let w = c .before .before in
+    let v = c .before in
+    let w = v .before in
     let a = w .before .before .before .args in
-    above-told (a .p) (a .c) (w .wrapping-sub-u64 .result) (w .wrapping-sub-u64 .ensures) h))
+    above-told (a .p) (a .c) (w .wrapping-sub-u64 .result) (v .wrapping-sub-u642 .result) (w .wrapping-sub-u64 .ensures) (v .wrapping-sub-u642 .ensures) h))

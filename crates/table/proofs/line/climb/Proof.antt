@@ -30,11 +30,11 @@ climb-spec =
     (λ c κs. search needs)
     (λ c κs. climb-in _ _ _ _ _ _ (c .before .before .loop .inv) _ (c .before .passes .ensures) (c .if1 .taken))
     (λ c κs. search needs)
-    (λ c. let l = c .before .before .before .before .before in (sym (l .loop .inv .same), climb-number _ _ _ _ _ _ (l .loop .inv)))
+    (λ c. let l = c .before .before .before .before .before in (sym (l .loop .inv .same), (climb-number _ _ _ _ _ _ (l .loop .inv), l .loop .inv .here)))
     (λ c.
     let p = c .before .before .before .before in
     climb-less _ _ _ _ _ _ (p .before .loop .inv) _ (p .passes .ensures) (c .before .before .before .if1 .taken) _ (c .before .before .cut-at2 .ensures) _ (c .before .above .ensures) (not-false _ (c .if2 .left)))
     (λ c.
     let p = c .before .before .before .before in
     climb-up _ _ _ _ _ _ (p .before .loop .inv) _ (p .passes .ensures) (c .before .before .before .if1 .taken) _ (c .before .before .cut-at2 .ensures) _ (c .before .above .ensures) (not-false _ (c .if2 .left)))
-    (λ c. let l = c .before .before in (sym (l .loop .inv .same), climb-number _ _ _ _ _ _ (l .loop .inv))))
+    (λ c. let l = c .before .before in (sym (l .loop .inv .same), (climb-number _ _ _ _ _ _ (l .loop .inv), l .loop .inv .here))))

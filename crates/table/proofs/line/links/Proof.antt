@@ -9,5 +9,5 @@ links-spec =
     tie.close
     (tie.spec
     (λ c κs. search needs)
-    (λ c. search needs)
-    (λ c. rw (c .before .before .before .before .before .unpacked .ensures)))
+    (λ c κs. search needs)
+    (λ c. let t = c .before .before .before .before in rw (t .has-tag .ensures, t .before .unpacked .ensures)))

@@ -1,0 +1,62 @@
+-- `checks::refusal::told` meets its contract: each arm tells its numbers.
+-- Assumes nothing.
+use mathlib.Core.Path.{refl}
+use borrow.Author.Needs.{needs}
+use Rattle.checks.proofs.refusal.told.Statement.{statement}
+use Rattle.checks.proofs.refusal.told.Tie as tie
+
+pub told-spec : {M : Type 1} → statement M
+told-spec =
+    tie.close
+    (tie.spec
+    (λ c. search needs)
+    (λ c κs. search needs)
+    (λ c. search needs)
+    (λ c κs. search needs)
+    (λ c. search needs)
+    (λ c κs. search needs)
+    (λ c. search needs)
+    (λ c κs. search needs)
+    (λ c. search needs)
+    (λ c κs. search needs)
+    (λ c. search needs)
+    (λ c κs. search needs)
+    (λ c. search needs)
+    (λ c κs. search needs)
+    (λ c. search needs)
+    (λ c κs. search needs)
+    (λ c. search needs)
+    (λ c κs. search needs)
+    (λ c. search needs)
+    (λ c κs. search needs)
+    (λ c. search needs)
+    (λ c κs. search needs)
+    (λ c. search needs)
+    (λ c κs. search needs)
+    (λ c. search needs)
+    (λ c κs. search needs)
+    (λ c. search needs)
+    (λ c κs. search needs)
+    (λ c. search needs)
+    (λ c κs. search needs)
+    (λ c. search needs)
+    (λ c κs. search needs)
+    (λ c. search needs)
+    (λ c κs. search needs)
+    (λ c. rw (c .before .enum-told .given .1) (c .plain .ensures))
+    (λ c. rw (c .before .enum-told2 .given .1) (c .plain2 .ensures))
+    (λ c. rw (c .before .before .why .given .1) (refl, c .bad-number .ensures))
+    (λ c. rw (c .before .before .why2 .given .1) (refl, c .bad-number2 .ensures))
+    (λ c. rw (c .before .enum-told3 .given .1) (c .plain3 .ensures))
+    (λ c. rw (c .before .enum-told4 .given .1) (c .plain4 .ensures))
+    (λ c. rw (c .before .enum-told5 .given .1) (c .plain5 .ensures))
+    (λ c. rw (c .before .enum-told6 .given .1) (c .plain6 .ensures))
+    (λ c. rw (c .before .enum-told7 .given .1) (c .plain7 .ensures))
+    (λ c. rw (c .before .enum-told8 .given .1) (c .plain8 .ensures))
+    (λ c. rw (c .before .enum-told9 .given .1) (c .plain9 .ensures))
+    (λ c. rw (c .before .enum-told10 .given .1) (c .plain10 .ensures))
+    (λ c. rw (c .before .enum-told11 .given .1) (c .plain11 .ensures))
+    (λ c. rw (c .before .enum-told12 .given .1) (c .plain12 .ensures))
+    (λ c. rw (c .before .enum-told13 .given .1) (c .plain13 .ensures))
+    (λ c. rw (c .before .enum-told14 .given .1) (c .plain14 .ensures))
+    (λ c. rw (c .before .enum-told15 .given .1) (c .plain15 .ensures)))

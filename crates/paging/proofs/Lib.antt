@@ -1,0 +1,2 @@
+pub mod InLaws
+pub mod OutLaws
