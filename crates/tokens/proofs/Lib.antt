@@ -1,2 +1,3 @@
+pub mod ByFormula
 pub mod PermissionLaws
 pub mod TokenLaws

@@ -1,13 +1,12 @@
--- A table's rule, shown at every entry by one test that antt computes.
+-- Verdicts on permissions, shown at all 64 pairs by one test that antt computes.
 -- Assumes nothing.
 use mathlib.Core.Path.{_≡_, refl, sym, _∙_, subst}
 use mathlib.Core.Bool.{Bool, true, false, _&&_, Bool·beq}
-use mathlib.Core.List.{List, []}
-use Prim.Native.Nat.{ℕ, zero, suc, _/_, _%_, _<_}
+use Prim.Native.Nat.{ℕ, zero, suc, _-_, _/_, _%_, _<_}
 use native.Mathlib.Nat.{mod-lt}
 use native.Mathlib.Omega.{arith}
+use lib.Bits.{and-mask, and-mod, bitAnd}
 use lib.Dec.{T, eqb}
-use lib.ListN.{getD}
 use borrow.Author.Tests.{eqb-true, eqb-false}
 use Rattle.tokens.specs.Permissions.{within}
 
@@ -38,13 +37,6 @@ same false false t = refl
 same true false t = absurd t
 same false true t = absurd t
 
--- the verdict that stands in a table's row and column, and the test of all 64
-abbrev verdict : List (List Bool) → ℕ → ℕ → Bool
-verdict rows wanted held = getD (getD rows wanted []) held false
-
-abbrev agrees : List (List Bool) → ℕ → ℕ → Bool
-agrees rows wanted held = Bool·beq (verdict rows wanted held) (within wanted held)
-
 -- only the low three bits of each are looked at
 within-low : (wanted held : ℕ) → within (wanted % 8) (held % 8) ≡ within wanted held
 unfolding within
@@ -52,12 +44,21 @@ within-low p q =
     let r : (x : ℕ) → x % 8 / 4 % 2 ≡ x / 4 % 2 = λ x. omega arith in
     let w : (x : ℕ) → x % 8 / 2 % 2 ≡ x / 2 % 2 = λ x. omega arith in
     let x : (x : ℕ) → x % 8 / 1 % 2 ≡ x / 1 % 2 = λ x. omega arith in
-    rw (r p, r q, w p, w q, x p, x q)
+    simp (r, w, x)
 
-pub rule : (rows : List (List Bool)) (wanted held : ℕ) → T (every 8 (λ p. every 8 (λ q. agrees rows p q))) → verdict rows (wanted % 8) (held % 8) ≡ within wanted held
-rule rows wanted held t =
+-- a verdict that is that of `within` at all 64 pairs, which is one test that antt computes, is so at any two numbers, by their low three bits
+pub rule : (verdict : ℕ → ℕ → Bool) → T (every 8 (λ p. every 8 (λ q. Bool·beq (verdict p q) (within p q)))) → (wanted held : ℕ) → verdict (wanted % 8) (held % 8) ≡ within wanted held
+rule verdict t wanted held =
     let p : ℕ = wanted % 8 in
     let q : ℕ = held % 8 in
-    same (verdict rows p q) (within p q)
-    (below 8 (λ q. agrees rows p q) (below 8 (λ p. every 8 (λ q. agrees rows p q)) t p (mod-lt wanted (omega arith))) q (mod-lt held (omega arith)))
+    let agrees : ℕ → ℕ → Bool = λ a b. Bool·beq (verdict a b) (within a b) in
+    same (verdict p q) (within p q)
+    (below 8 (agrees p) (below 8 (λ p. every 8 (agrees p)) t p (mod-lt wanted (omega arith))) q (mod-lt held (omega arith)))
     ∙ within-low wanted held
+
+-- the code's formula: of the bits that are wanted and not held, the mask leaves the low three
+pub formula : (wanted held : ℕ) → held < 256 → eqb (bitAnd (bitAnd wanted (255 - held)) 7) 0 ≡ within wanted held
+unfolding within
+formula wanted held h =
+    let lacks : (255 - held) % 8 ≡ 7 - held % 8 = omega arith in
+    rw (and-mask (bitAnd wanted (255 - held)) 3, and-mod wanted (255 - held) 3, lacks) (rule (λ p q. eqb (bitAnd p (7 - q)) 0) tt wanted held)

@@ -1,2 +1,3 @@
+pub mod ByFormula
 pub mod Permissions
 pub mod Token
