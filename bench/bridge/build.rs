@@ -53,7 +53,7 @@ fn proved() -> Result<PathBuf, Vec<String>> {
     let started = SystemTime::now();
     let root = env::var("CARGO_MANIFEST_DIR").expect("cargo names the package's folder");
     let root = fs::canonicalize(PathBuf::from(root).join("../..")).expect("the repository's root");
-    for part in ["crates", "crates.txt", "build-library"] {
+    for part in ["crates", "crates.txt", "build-library", "in-memory"] {
         println!("cargo::rerun-if-changed={}", root.join(part).display());
     }
     let (succeeded, mut said) = run(&root.join("build-library")).expect("a shell and a pipe");

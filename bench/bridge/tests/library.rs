@@ -75,8 +75,10 @@ fn repository(name: &str) -> PathBuf {
     fs::create_dir_all(root.join("bin")).expect("a new folder");
     fs::create_dir_all(root.join("crates/bits/src")).expect("a new folder");
     fs::write(root.join("crates/bits/src/lib.rt"), "").expect("a crate");
-    let script = Path::new(env!("CARGO_MANIFEST_DIR")).join("../../build-library");
-    fs::copy(script, root.join("build-library")).expect("a copy of build-library");
+    for script in ["build-library", "in-memory"] {
+        let from = Path::new(env!("CARGO_MANIFEST_DIR")).join("../..").join(script);
+        fs::copy(from, root.join(script)).expect("a copy of the script");
+    }
     fs::write(
         root.join("crates.txt"),
         "bits:\nuses: bits\nlocks: bits\nnorthbridge: locks\nleased: locks\n",

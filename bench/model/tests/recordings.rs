@@ -1,4 +1,4 @@
-//! The recorded sessions of crates/machine/specs/Recordings.antt are this model's: each request is
+//! The recorded sessions of crates/recorded/specs/Recordings.antt are this model's: each request is
 //! served again, and answers, states, tables, buffers and memory are held to what stands there.
 
 mod definitions;
@@ -11,7 +11,7 @@ use std::collections::BTreeMap;
 type Definitions = BTreeMap<String, Term>;
 
 fn recordings() -> Definitions {
-    let specs = concat!(env!("CARGO_MANIFEST_DIR"), "/../../crates/machine/specs");
+    let specs = concat!(env!("CARGO_MANIFEST_DIR"), "/../../crates/recorded/specs");
     read(&std::fs::read_to_string(format!("{specs}/Recordings.antt")).expect("the recordings"))
 }
 

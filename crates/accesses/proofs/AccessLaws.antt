@@ -30,9 +30,7 @@ use Rattle.rulings.specs.Rulings.{effectOn, grantedEffect, granting, handed, pl
 use Rattle.rulings.specs.declared.reply.Outcome.{Outcome}
 use Rattle.rulings.proofs.AllotLaws.{request-limits}
 use Rattle.rulings.proofs.RulingLaws.{decided-pass, effect-pass, passed-on, rest-alone, token-passes}
-use Rattle.accesses.specs.Ways.{loadAs, Loads, startOf}
-use Rattle.accesses.specs.declared.access.Loading.{Loading}
-use Rattle.accesses.specs.declared.access.Loading.the-variants as loading
+use Rattle.accesses.specs.Transfers.{startOf}
 
 -- ---- the right, as one bit
 
@@ -103,11 +101,6 @@ module _ (m : ℕ) (s : State) (t : List ℕ) (w : Way) (k u : ℕ) (φ : Shift)
     pub access-effect : effectOn m s t (access w k u φ) b ≡ transfer w (startOf t k) b
     unfolding grantedEffect
     access-effect = effect-pass m s t (access w k u φ) b h
-
--- a read and a fetch take bytes from memory
-pub loads : (l : Loading) → Loads (loadAs l)
-loads loading.Read a b = refl
-loads loading.Fetch a b = refl
 
 -- what is handed back
 pub access-grants : (m : ℕ) (s : StateWords) (t : List ℕ) (w : Way) (k u : ℕ) (φ : Shift) (b : List ℕ) (r : Outcome) → r ≡ plainly s 0 → verdictOn m (stateAs s) t (access w k u φ) b ≡ pass

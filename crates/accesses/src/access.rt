@@ -12,6 +12,7 @@ use leases::lease::judge_leases;
 use rulings::reply::Outcome;
 use rulings::reply::plain;
 use rulings::reply::refused;
+use rulings::request::Way;
 use table::entries::entry_at;
 use table::state::StateWords;
 use tokens::token::Named;
@@ -32,30 +33,10 @@ ghost use Rattle.machine.specs.Operations.{numberOf, transfer};
 ghost use Rattle.machine.specs.Parts.{State};
 ghost use Rattle.machine.specs.Requests as request;
 ghost use Rattle.machine.specs.Steps.{bufferAfter, memoryAfter};
-ghost use Rattle.table.specs.States.{stateAs};
-ghost use Rattle.rulings.specs.Rulings.{effectOn, handed, rulingOn, verdictOn};
-ghost use Rattle.accesses.specs.Ways.{Begins, Carries, loadAs, startOf, Transfers, wayAs};
-
-pub enum Way {
-    Read,
-    Write,
-    Fetch,
-}
-
-// The ways that take bytes from memory.
-pub enum Loading {
-    Read,
-    Fetch,
-}
-
-fn way_of(by: Loading) -> Way
-    ensures { λ r. ⌜ wayAs r ≡ loadAs by ⌝ }
-{
-    match by {
-        Loading::Read => Way::Read,
-        Loading::Fetch => Way::Fetch,
-    }
-}
+ghost use Rattle.rulings.specs.Asked.{wayAs};
+ghost use Rattle.rulings.specs.Rulings.{verdictOn};
+ghost use Rattle.rulings.specs.Served.{Served};
+ghost use Rattle.accesses.specs.Transfers.{Begins, Carries, startOf, Transfers};
 
 // What the checks of an access come to: where it stops, or where in memory it begins, at the
 // segment's base and the token's offset.
@@ -229,79 +210,6 @@ fn store(memory: &mut [u8], start: usize, buffer: &[u8])
     copy(&mut memory[start..end], buffer);
 }
 
-// Read or fetch: the segment's bytes at the token's offset go to the buffer, with R or X.
-pub fn fill(
-    mut s: StateWords,
-    by: Loading,
-    table: &[u8],
-    memory: &[u8],
-    buffer: &mut [u8],
-    leases: &[u8],
-    token: u64,
-    task: u64,
-    minute: u64,
-) -> Outcome
-    ensures { λ r. ⌜ handed r (now (table .entry)) ≡ rulingOn (length (now (memory .entry))) (stateAs s) (now (table .entry)) (request.access (loadAs by) token task (shiftAs minute (now (leases .entry)))) (now (buffer .entry)) ⌝ }
-    ensures { λ _. ⌜ now (buffer .exit) ≡ bufferAfter (effectOn (length (now (memory .entry))) (stateAs s) (now (table .entry)) (request.access (loadAs by) token task (shiftAs minute (now (leases .entry)))) (now (buffer .entry))) (now (memory .entry)) (now (buffer .entry)) ⌝ }
-{
-    let bytes = memory.len() as u64;
-    let set = settings(bytes, s, table);
-    let r = check_access(
-        set,
-        table,
-        bytes,
-        way_of(by),
-        token,
-        task,
-        leases,
-        minute,
-        buffer,
-    );
-    match r {
-        Transfer::Stop(why) => refused(s, why),
-        Transfer::From(start) => {
-            load(memory, start as usize, buffer);
-            plain(s, 0)
-        }
-    }
-}
-
-// The buffer goes to the segment at the token's offset: needs W.
-pub fn write(
-    mut s: StateWords,
-    table: &[u8],
-    memory: &mut [u8],
-    buffer: &[u8],
-    leases: &[u8],
-    token: u64,
-    task: u64,
-    minute: u64,
-) -> Outcome
-    ensures { λ r. ⌜ handed r (now (table .entry)) ≡ rulingOn (length (now (memory .entry))) (stateAs s) (now (table .entry)) (request.access request.writing token task (shiftAs minute (now (leases .entry)))) (now (buffer .entry)) ⌝ }
-    ensures { λ _. ⌜ now (memory .exit) ≡ memoryAfter (effectOn (length (now (memory .entry))) (stateAs s) (now (table .entry)) (request.access request.writing token task (shiftAs minute (now (leases .entry)))) (now (buffer .entry))) (now (memory .entry)) ⌝ }
-{
-    let bytes = memory.len() as u64;
-    let set = settings(bytes, s, table);
-    let r = check_access(
-        set,
-        table,
-        bytes,
-        Way::Write,
-        token,
-        task,
-        leases,
-        minute,
-        buffer,
-    );
-    match r {
-        Transfer::Stop(why) => refused(s, why),
-        Transfer::From(start) => {
-            store(memory, start as usize, buffer);
-            plain(s, 0)
-        }
-    }
-}
-
 // The bytes go the way of the access.
 fn carry(way: Way, memory: &mut [u8], start: usize, buffer: &mut [u8])
     requires { ⌜ (start + length (now buffer) ≤ length (now memory)) × (length (now buffer) ≤ 4096) ⌝ }
@@ -315,8 +223,8 @@ fn carry(way: Way, memory: &mut [u8], start: usize, buffer: &mut [u8])
     }
 }
 
-// An access by any way: what `fill` and `write` do, as one function, which is called in one place and
-// so becomes part of its caller.
+// An access by any way: the bytes at the token's offset in the segment go to the buffer, with R or X, or
+// the buffer goes there, with W.
 pub fn access(
     mut s: StateWords,
     way: Way,
@@ -328,9 +236,7 @@ pub fn access(
     task: u64,
     minute: u64,
 ) -> Outcome
-    ensures { λ r. ⌜ handed r (now (table .entry)) ≡ rulingOn (length (now (memory .entry))) (stateAs s) (now (table .entry)) (request.access (wayAs way) token task (shiftAs minute (now (leases .entry)))) (now (buffer .entry)) ⌝ }
-    ensures { λ _. ⌜ now (memory .exit) ≡ memoryAfter (effectOn (length (now (memory .entry))) (stateAs s) (now (table .entry)) (request.access (wayAs way) token task (shiftAs minute (now (leases .entry)))) (now (buffer .entry))) (now (memory .entry)) ⌝ }
-    ensures { λ _. ⌜ now (buffer .exit) ≡ bufferAfter (effectOn (length (now (memory .entry))) (stateAs s) (now (table .entry)) (request.access (wayAs way) token task (shiftAs minute (now (leases .entry)))) (now (buffer .entry))) (now (memory .entry)) (now (buffer .entry)) ⌝ }
+    ensures { λ r. ⌜ Served (request.access (wayAs way) token task (shiftAs minute (now (leases .entry)))) s (now (table .entry)) (now (memory .entry)) (now (buffer .entry)) r (now (table .entry)) (now (memory .exit)) (now (buffer .exit)) ⌝ }
 {
     let bytes = memory.len() as u64;
     let set = settings(bytes, s, table);

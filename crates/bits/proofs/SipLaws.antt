@@ -8,10 +8,11 @@ use native.Mathlib.Numerals.{add-one}
 use native.Mathlib.Omega.{arith}
 use lib.ListN.{length, getD, take, drop, replicate, length-append, length-drop, length-replicate}
 use lib.Arith.{mod-mul}
-use lib.Bits.{bitOr, or-shifted}
+use lib.Bits.{bitOr, bitXor, or-shifted}
 use lib.Pow.{pow-add, pow-pos, shl-shr, shr-lt}
 use lib.Seq.{take-all, take-append-le, drop-append-le}
 use Rattle.bits.specs.Bytes.{lowNumber, number}
+use Rattle.bits.specs.Fields.{pack}
 use Rattle.bits.specs.SipHash.{absorb, add64, compress, finish, padded, rotl, siphash, sipRound, start, word}
 use Rattle.bits.specs.declared.siphash.Lanes.{Lanes}
 use Rattle.bits.proofs.ByteLaws.{tabulate}
@@ -40,6 +41,10 @@ pub hashed : (k0 k1 : ℕ) (m : List ℕ)
 unfolding siphash padded absorb
 hashed k0 k1 m = rw (add-one, absorb-append (length m / 8) m _ (start k0 k1) (omega arith))
 
+pub hashed-by : (k0 k1 : ℕ) (m : List ℕ) {l r : ℕ} {v w x : Lanes} → r ≡ finish x → x ≡ compress w l → w ≡ absorb (length m / 8) m v → v ≡ start k0 k1
+    → l ≡ word (padded m) (length m / 8) → r ≡ siphash k0 k1 m
+hashed-by k0 k1 m e p q t o = rw (hashed k0 k1 m, ← t, ← q, ← o, ← p) e
+
 -- which has what is left of the message, in the code's words, and reads 0 past its end
 abbrev pub rest : List ℕ → List ℕ
 rest m = take (length m - 8 * (length m / 8)) (drop (8 * (length m / 8)) m)
@@ -58,6 +63,31 @@ last-word m =
       take-all (length m - 8 * (length m / 8)) left (omega arith),
       filled 7 left (length m % 256 ∷ []) (omega arith),
     )
+
+-- so it is joined from what is left, byte by byte
+pub last-joined : (m : List ℕ) {r a b c d e f g h : ℕ} → r ≡ pack (replicate 8 8) (h ∷ g ∷ f ∷ e ∷ d ∷ c ∷ b ∷ a ∷ []) → h ≡ length m % 256
+    → g ≡ getD (rest m) 6 0 → f ≡ getD (rest m) 5 0 → e ≡ getD (rest m) 4 0 → d ≡ getD (rest m) 3 0 → c ≡ getD (rest m) 2 0 → b ≡ getD (rest m) 1 0
+    → a ≡ getD (rest m) 0 0 → r ≡ word (padded m) (length m / 8)
+unfolding number lowNumber
+last-joined m j h6 h5 h4 h3 h2 h1 h0 hh = rw last-word (rw (h6, h5, h4, h3, h2, h1, h0, hh) at j)
+
+-- a round by its sums and turns
+pub rounded : (v : Lanes) {a b c d e f g h i k : ℕ} → f ≡ add64 c (bitXor e d) → g ≡ rotl (bitXor e d) 21 → h ≡ add64 d (bitXor b a) → i ≡ rotl (bitXor b a) 17
+    → k ≡ rotl h 32 → c ≡ rotl a 32 → a ≡ add64 (v .v0) (v .v1) → b ≡ rotl (v .v1) 13 → d ≡ add64 (v .v2) (v .v3) → e ≡ rotl (v .v3) 16
+    → record { v0 = f; v1 = bitXor i h; v2 = k; v3 = bitXor g f } ≡ sipRound v
+unfolding sipRound
+rounded v pf pg ph pi pk pc pa pb pd pe = rw (pk, pi, pg, pf, ph, pc, pa, pb, pd, pe)
+
+-- the rounds of a word, and those of the end
+pub compressed : (v : Lanes) (m : ℕ) {x y : Lanes} → y ≡ sipRound x → x ≡ sipRound (record { v0 = v .v0; v1 = v .v1; v2 = v .v2; v3 = bitXor (v .v3) m })
+    → record { v0 = bitXor (y .v0) m; v1 = y .v1; v2 = y .v2; v3 = y .v3 } ≡ compress v m
+unfolding compress
+compressed v m q p = rw (q, p)
+
+pub finished : (v : Lanes) {x y z w : Lanes} → w ≡ sipRound z → z ≡ sipRound y → y ≡ sipRound x → x ≡ sipRound (record { v0 = v .v0; v1 = v .v1; v2 = bitXor (v .v2) 0xff; v3 = v .v3 })
+    → bitXor (bitXor (bitXor (w .v0) (w .v1)) (w .v2)) (w .v3) ≡ finish v
+unfolding finish
+finished v s r q p = rw (s, r, q, p)
 
 -- word i goes in after those before it
 pub absorb-more : (i m : ℕ) (s : List ℕ) (v : Lanes) {w x : Lanes} → w ≡ absorb i s v

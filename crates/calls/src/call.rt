@@ -10,15 +10,21 @@ use interface::state::STATE_SIZE;
 use interface::state::read_state;
 use interface::state::write_state;
 use leases::lease::fits;
-use operations::serve::Request;
-use operations::state::State;
 use rulings::reply::Reply;
+use rulings::request::Request;
+use serving::serve::serve;
+use table::state::StateWords;
 ghost use mathlib.Core.Path.{_≡_};
-ghost use mathlib.Core.List.{[]};
+ghost use mathlib.Core.Bool.{true, cond};
+ghost use mathlib.Core.List.{List, []};
+ghost use Prim.Native.Nat.{ℕ};
 ghost use lib.ListN.{length};
-ghost use Rattle.operations.specs.Turns.{requestAs};
+ghost use Rattle.machine.specs.Steps.{Machine, step};
+ghost use Rattle.table.specs.States.{stateAs};
+ghost use Rattle.rulings.specs.Asked.{requestAs};
+ghost use Rattle.rulings.specs.Served.{callAs};
 ghost use Rattle.interface.specs.Exported as interface;
-ghost use Rattle.interface.specs.Exported.{answerSize, asked, carried, known, noLeases, stateSize, told, wordsSized};
+ghost use Rattle.interface.specs.Exported.{answerSize, asked, carried, known, noLeases, stateBytes, stateSize, told, wordsSized};
 ghost use Rattle.interface.specs.Meanings.{askedAs, left};
 
 // Request, state and answer have their sizes.
@@ -61,6 +67,31 @@ pub fn refuse(answer: &mut [u8]) -> u64
     }
 }
 
+// Whether the request is sure to leave the state: an access does.
+fn leaves(request: Request) -> bool
+    ensures { λ r. ⌜ (r ≡ true → (σ : Machine) (b ls : List ℕ) → step σ (callAs (requestAs request ls) b) .state ≡ σ .state) ⌝ }
+{
+    match request {
+        Request::Access {
+            way: _,
+            token: _,
+            task: _,
+            minute: _,
+        } => true,
+        _ => false,
+    }
+}
+
+// The state is stored, unless the request leaves it.
+fn put_state(left: bool, state: &mut [u8], s: StateWords)
+    requires { ⌜ length (now state) ≡ stateSize ⌝ }
+    ensures { λ _. ⌜ now (state .exit) ≡ cond left (now (state .entry)) (stateBytes (stateAs s)) ⌝ }
+{
+    if !left {
+        write_state(state, s);
+    }
+}
+
 // One step of the machine, from the state's bytes to the answer's.
 pub fn carry_out(
     request: Request,
@@ -75,10 +106,10 @@ pub fn carry_out(
     ensures { λ r. ⌜ left r (now (state .exit)) (now (table .exit)) (now (memory .exit)) (now (buffer .exit)) (now (answer .exit)) ≡ carried (known (requestAs request (now (leases .entry)))) (now (state .entry)) (now (table .entry)) (now (memory .entry)) (now (buffer .entry)) (now (answer .entry)) ⌝ }
 {
     let words = read_state(state);
-    let s = State { words };
-    let served = s.serve(request, table, memory, buffer, leases);
+    let left = leaves(request);
+    let served = serve(words, request, table, memory, buffer, leases);
     let next = served.state;
-    write_state(state, next);
+    put_state(left, state, next);
     let told = served.reply;
     write_answer(answer, told)
 }

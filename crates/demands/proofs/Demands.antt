@@ -1,19 +1,23 @@
--- Demands 1 and 2 of the exported function.
+-- The three demands of the exported functions.
 -- Assumes nothing.
 use mathlib.Core.Path.{_≡_, refl, sym, ap, subst, _∙_}
 use lib.ListN.{length}
 use borrow.Author.Tests.{ne-eqb}
 use Rattle.bits.specs.Bytes.{AllBytes}
+use Rattle.machine.specs.MachineSystem.{ofMachine}
 use Rattle.machine.specs.Requests.{Call}
 use Rattle.machine.specs.Steps as steps
 use Rattle.machine.specs.Steps.{Machine, run, step}
 use Rattle.machine.specs.Stops.{atRequest}
 use Rattle.machine.proofs.Decided.{tells}
 use Rattle.machine.proofs.Refused.{refused-keeps, refused-tells}
-use Rattle.demands.specs.Demands.{after, asks, Brought, callOf, Demand1, Demand2, machine, Safe, Standing}
+use Rattle.machine.proofs.Simulation.{shown-claim}
+use Rattle.machine.proofs.Theorem as theorem
+use Rattle.demands.specs.Demands.{after, asks, Brought, callOf, Demand1, Demand2, Demand3, machine, ofCalls, requested, Safe, Standing}
 use Rattle.interface.specs.Exported.{answerSize, Asked, carried, known, served, told, unknown}
 use Rattle.interface.proofs.CallLaws.{known-sizes}
-use Rattle.demands.proofs.Listed.{called-as, requested-alone, state-kept, tracks, Whole, whole-bytes}
+use Rattle.demands.proofs.CallsShow.{requested-left, shows-machine}
+use Rattle.demands.proofs.OneCall.{called-as, state-kept, Whole, whole-bytes}
 
 -- ---- demand 1
 
@@ -46,8 +50,14 @@ pub demand2 : Demand2
 unfolding Demand2
 demand2 κ n h qs b =
     let w : Whole κ = whole-bytes κ h n in
-    let left = tracks κ qs w b .left ∙ ap (run (machine κ)) (sym (requested-alone κ qs w b)) in
+    let left : machine (after κ qs) ≡ run (machine κ) (requested κ qs) = requested-left κ qs w b in
     record {
       left = left;
       called = λ q r e. called-as (after κ qs) q (known r) e ∙ ap (λ (σ : Machine). served (step σ (callOf r q)) (steps.answer σ (callOf r q))) left;
     }
+
+-- ---- demand 3
+
+pub demand3 : Demand3
+unfolding Demand3
+demand3 = shown-claim ofCalls ofMachine shows-machine theorem.demand3

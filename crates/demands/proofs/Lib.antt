@@ -1,4 +1,4 @@
+pub mod CallsShow
 pub mod Demands
 pub mod Example
-pub mod Listed
-pub mod Secrecy
+pub mod OneCall

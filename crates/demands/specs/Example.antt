@@ -1,14 +1,17 @@
 -- A small list of calls that demand 3 is held against: 8 bytes of memory, a table of two entries, key 0.
 -- Assumes nothing.
 use mathlib.Core.Path.{_≡_}
-use mathlib.Core.List.{List, [], _∷_, _++_, List·Memᴰ, map}
+use mathlib.Core.List.{List, [], _∷_, _++_, map}
 use Prim.Native.Nat.{ℕ}
 use lib.ListN.{replicate}
-use Rattle.machine.specs.Demand3.{IsReset, LockedFor, Under}
 use Rattle.bits.specs.Bytes.{AllBytes}
+use Rattle.machine.specs.Demand3.{FirstRevoke, Reset}
+use Rattle.machine.specs.Ledger.{Event, Gave, Returned}
 use Rattle.machine.specs.Parts.{at}
+use Rattle.machine.specs.Segments.{LockedFor, Under}
+use Rattle.machine.specs.System.{event, ledger, Never}
 use Rattle.machine.specs.Writes.{Name}
-use Rattle.demands.specs.Demands.{after, Brought, Bytes, call, FirstRevoke, gives, Grants, machine, Never, next, Returns, Standing, Without}
+use Rattle.demands.specs.Demands.{after, Brought, Bytes, call, next, ofCalls, Standing}
 use Rattle.interface.specs.Exported.{noLeases, withLeases, wordBytes}
 
 -- ---- the premises of demand 3, in one place
@@ -23,21 +26,21 @@ pub record First : Type 0 where
 abbrev pub listOf : First → List Brought
 listOf f = f .reset ∷ f .follows
 
--- further calls qs and the revoke r; the token k that the call q gave, with a before q and b after it, and that did not return
-pub record Premises (κ : Standing) (f : First) (qs : List Brought) (r : Brought) (a : List Brought) (q : Brought) (b : List Brought) (k : Name) : Type 0 where
+-- further calls qs and the revoke r; the token k that the event v gave, with the events since, and that did not return
+pub record Premises (κ : Standing) (f : First) (qs : List Brought) (r : Brought) (k : Name) (v : Event) (since : List Event) : Type 0 where
   pub bytes : AllBytes (κ .state)
-  pub granted : Grants IsReset κ (f .reset)
+  pub granted : Reset ofCalls κ (f .reset)
   pub firstBytes : Bytes (listOf f)
-  pub oneReset : Never IsReset (next κ (f .reset)) (f .follows)
-  pub locked : LockedFor (machine (after κ (listOf f))) (f .entry) (f .task)
+  pub oneReset : Never ofCalls (Reset ofCalls) (next κ (f .reset)) (f .follows)
+  pub locked : LockedFor (after κ (listOf f) .table) (f .entry) (f .task)
   pub moreBytes : Bytes qs
-  pub without : Without (f .task) (after κ (listOf f)) qs
-  pub revoked : FirstRevoke (after κ (listOf f)) (f .entry) qs r
+  pub noReset : Never ofCalls (ofCalls .Resets) (after κ (listOf f)) qs
+  pub noneCarries : Never ofCalls (λ μ q. ofCalls .Carries μ q (f .task)) (after κ (listOf f)) qs
+  pub revoked : FirstRevoke ofCalls (after κ (listOf f)) (f .entry) qs r
   pub revokeBytes : Bytes (r ∷ [])
-  pub whole : a ++ (q ∷ b) ≡ listOf f ++ qs
-  pub given : List·Memᴰ k (gives (after κ a) q)
-  pub under : Under (next (after κ a) q .table) (at (after κ (listOf f) .table) (f .entry)) k
-  pub once : Returns (next (after κ a) q) (b ++ (r ∷ [])) k → ⊥
+  pub given : Gave k v since (ledger ofCalls [] κ (listOf f ++ qs))
+  pub under : Under (v .table) (at (after κ (listOf f) .table) (f .entry)) k
+  pub once : Returned k v (ledger ofCalls since (after κ (listOf f ++ qs)) (r ∷ [])) → ⊥
 
 -- ---- the calls
 
@@ -102,6 +105,13 @@ ByEither = call (next before resets1) lastMinute ≡ call (next before resets1) 
 -- what the derive gives
 abbrev pub child : Name
 child = record { number = 1; tag = 63154 }
+
+-- what the derive leaves in the ledger, and what follows it there
+abbrev pub derived : Event
+derived = event ofCalls (next before resets1) derives
+
+abbrev pub sinceDerived : List Brought → List Event
+sinceDerived qs = ledger ofCalls [] (after before (resets1 ∷ derives ∷ [])) qs
 
 -- the root is left locked for 7
 abbrev pub first : First

@@ -14,7 +14,6 @@ use tokens::token::Named;
 use tokens::token::read;
 ghost use mathlib.Core.Path.{_≡_};
 ghost use mathlib.Core.List.{[]};
-ghost use lib.ListN.{length};
 ghost use Rattle.checks.specs.Reached.{Forms};
 ghost use Rattle.machine.specs.Line.{isLocked, lineOf};
 ghost use Rattle.machine.specs.Operations.{numberOf};
@@ -22,7 +21,8 @@ ghost use Rattle.machine.specs.Requests as request;
 ghost use Rattle.machine.specs.Steps.{pass};
 ghost use Rattle.table.specs.States.{stateAs};
 ghost use Rattle.tokens.specs.Token as tokens;
-ghost use Rattle.rulings.specs.Rulings.{granting, handed, rulingOn, verdictOn};
+ghost use Rattle.rulings.specs.Rulings.{granting, handed, verdictOn};
+ghost use Rattle.rulings.specs.Served.{ServedAlone};
 
 // Place 4 is skipped. The line's lock is told with the pass. The token is read as named.
 fn check_drop(s: StateWords, table: &[u8], memory: u64, token: u64, named: Named) -> Formed
@@ -74,7 +74,7 @@ fn grant_drop(
 
 // One holder of the token less.
 pub fn drop(mut s: StateWords, table: &mut [u8], memory: &[u8], token: u64) -> Outcome
-    ensures { λ r. ⌜ handed r (now (table .exit)) ≡ rulingOn (length (now (memory .entry))) (stateAs s) (now (table .entry)) (request.release token) [] ⌝ }
+    ensures { λ r. ⌜ ServedAlone (request.release token) s (now (table .entry)) (now (memory .entry)) r (now (table .exit)) (now (memory .entry)) ⌝ }
 {
     let bytes = memory.len() as u64;
     let named = read(token);

@@ -12,8 +12,9 @@ use borrow.Author.Tests.{le-leb, leb-true, lt-leb}
 use borrow.Rule.Slice.PartMut.{putMid}
 use Rattle.hex.specs.Accounted as claim
 use Rattle.hex.specs.Text.{farthest, loads, Piece, refused, Said, said}
-use Rattle.hex.specs.Written.{writtenLength}
+use Rattle.hex.specs.Written.{written, writtenLength}
 use Rattle.hex.proofs.AccountedLaws.{accounted}
+use Rattle.hex.proofs.WrittenLaws.{written-long}
 use Rattle.hexread.specs.Answers.{applied, Fits, judgedAs}
 use Rattle.hexread.specs.declared.text.Judged.{Judged}
 use Rattle.hexread.specs.declared.text.Judged.the-variants.{Loads, Malformed, WrongSum}
@@ -26,23 +27,20 @@ use Rattle.checks.specs.Shifts.{shiftVerdict}
 use Rattle.checks.proofs.ShiftLaws.{hold-append, shift-read, shift-text}
 use Rattle.checks.proofs.ReachLaws.{reached-inside}
 use Rattle.checks.proofs.VerdictLaws.{together}
-use Rattle.machine.specs.Images.{piecesIn, piecesOf, spares, textFits}
-use Rattle.machine.specs.Operations.{Effect, effecting, grant, grantDump, grantLoad, namedEntry, numberOf, placed}
+use Rattle.machine.specs.Images.{piecesIn, piecesOf, spares, textShort}
+use Rattle.machine.specs.Operations.{carried, Effect, effectBy, grantAccess, namedEntry, numberOf, placed, text}
 use Rattle.machine.specs.Parts.{at, State}
-use Rattle.machine.specs.Requests.{dump, load, Request, Shift}
-use Rattle.machine.specs.Steps.{bufferAfter, memoryAfter, pass, stop, stored, Verdict, verdict}
-use Rattle.machine.specs.Stops.{atBounds, atChecksum, atRecord, atRight, atRoom, checks, needAll, noOffset, places, Refusal, settings, shiftFits, sizes, taskFits, textRead, textShort}
+use Rattle.machine.specs.Requests.{dump, dumping, load, loading, Shift}
+use Rattle.machine.specs.Steps as Steps
+use Rattle.machine.specs.Steps.{bufferAfter, pass, stop, stored, toldLength, Verdict, verdict}
+use Rattle.machine.specs.Stops.{atBounds, atChecksum, atRecord, atRight, atRoom, checks, lastly, noOffset, places, Refusal, settings, shiftFits, sizes, taskFits, textRead}
 use Rattle.machine.proofs.Decided.{Passed}
 use Rattle.machine.proofs.PlaceLaws.{stored-part}
 use Rattle.table.specs.States.{stateAs}
 use Rattle.table.specs.declared.state.StateWords.{StateWords}
-use Rattle.rulings.specs.Rulings.{effectOn, grantedEffect, granting, handed, rulingOn, tokensOn, verdictOn}
-use Rattle.rulings.specs.declared.reply.Outcome.{Outcome}
-use Rattle.images.specs.Segments.{Comes, telling}
-use Rattle.images.specs.declared.segment.Imaged.{Imaged}
-use Rattle.images.specs.declared.segment.Imaged.the-variants as imaged
+use Rattle.rulings.specs.Rulings.{effectOn, fillingSo, grantedEffect, granting, handed, ruled, rulingOn, tokensOn, verdictOn}
 use Rattle.rulings.proofs.AllotLaws.{request-limits}
-use Rattle.rulings.proofs.RulingLaws.{by-effect, decided-pass, decided-stop, effect-pass, passed-on, rest-alone, token-passes, token-stops}
+use Rattle.rulings.proofs.RulingLaws.{by-effect, decided-pass, effect-pass, passed-on, rest-alone, token-passes, token-stops}
 
 -- ---- the text
 
@@ -180,16 +178,17 @@ module _ (m : ℕ) (s : State) (t : List ℕ) (k u : ℕ) (φ : Shift) (b : List
     pub load-fits : Fits (said b) (namedEntry t k .length)
     load-fits = let p = all in text-fits b (namedEntry t k .length) (search) (search) (leb-true (farthest (piecesOf b)) (namedEntry t k .length) (search))
 
-    pub load-effect : effectOn m s t (load k u φ) b ≡ grantLoad (namedEntry t k) b .effect
+    pub load-effect : effectOn m s t (load k u φ) b ≡ effectBy loading (namedEntry t k) 0 b
     unfolding grantedEffect
     load-effect = effect-pass m s t (load k u φ) b h
 
--- it leaves the buffer, and a dump memory
+-- it leaves the buffer, and tells no length
 pub load-buffer : (m : ℕ) (s : State) (t : List ℕ) (k u : ℕ) (φ : Shift) (b memory : List ℕ) → b ≡ bufferAfter (effectOn m s t (load k u φ) b) memory b
 load-buffer m s t k u φ b memory = by-effect (λ (f : Effect). b ≡ bufferAfter f memory b) m s t (load k u φ) b refl refl
 
-pub dump-memory : (m : ℕ) (s : State) (t : List ℕ) (k u : ℕ) (φ : Shift) (b memory : List ℕ) → memory ≡ memoryAfter (effectOn m s t (dump k u φ) b) memory
-dump-memory m s t k u φ b memory = by-effect (λ (f : Effect). memory ≡ memoryAfter f memory) m s t (dump k u φ) b refl refl
+pub load-handed : (m : ℕ) (s : StateWords) (t : List ℕ) (k u : ℕ) (φ : Shift) (b : List ℕ) → verdictOn m (stateAs s) t (load k u φ) b ≡ pass → handed (fillingSo s 0) t ≡ rulingOn m (stateAs s) t (load k u φ) b
+unfolding granting
+load-handed m s t k u φ b h = decided-pass m (stateAs s) t (load k u φ) b (handed (fillingSo s 0) t) refl h
 
 -- ---- a dump
 
@@ -200,19 +199,15 @@ pub room-none : (n room : ℕ) → 23820 < n → false ≡ (leb (writtenLength n
 room-none n room h = rw (lt-leb (writtenLength n) 65536 (omega arith))
 
 module _ (m : ℕ) (s : State) (t : List ℕ) (k u : ℕ) (φ : Shift) (b : List ℕ) where
-  module _ (room : ℕ) (long : length b ≡ room) (n : Named) (e : Entry) (is : n ≡ named k) (there : e ≡ at t (n .number)) where
-    dump-of : verdict (places m s t (dump k u φ) b .rest) ≡ cond (within R (e .permissions)) (cond (leb (writtenLength (e .length)) 65536 && leb (writtenLength (e .length)) room) pass (stop atRoom)) (stop atRight)
-    dump-of = ap (λ (v : Verdict). cond (within R (namedEntry t k .permissions)) v (stop atRight)) (together atRoom (textFits (namedEntry t k .length) b)) ∙ rw (← long, there, is)
+  module _ (n : Named) (e : Entry) (is : n ≡ named k) (there : e ≡ at t (n .number)) where
+    dump-of : verdict (places m s t (dump k u φ) b .rest) ≡ cond (within R (e .permissions)) pass (stop atRight)
+    dump-of = rw (there, is)
 
     pub dump-right : within R (e .permissions) ≡ false → verdict (places m s t (dump k u φ) b .rest) ≡ stop atRight
     dump-right h = dump-of ∙ rw h
 
-    module _ (held : within R (e .permissions) ≡ true) where
-      pub dump-out : (leb (writtenLength (e .length)) 65536 && leb (writtenLength (e .length)) room) ≡ false → verdict (places m s t (dump k u φ) b .rest) ≡ stop atRoom
-      dump-out h = dump-of ∙ rw (held, h)
-
-      pub dump-in : (leb (writtenLength (e .length)) 65536 && leb (writtenLength (e .length)) room) ≡ true → verdict (places m s t (dump k u φ) b .rest) ≡ pass
-      dump-in h = dump-of ∙ rw (held, h)
+    pub dump-held : within R (e .permissions) ≡ true → verdict (places m s t (dump k u φ) b .rest) ≡ pass
+    dump-held h = dump-of ∙ rw h
 
   pub dump-request : (settingsHold m s t && ltb u (2 ^ 55) && eqb (named k .offset) 0 && shiftHolds φ) ≡ requestHolds m s t (dump k u φ) b
   unfolding settingsHold requestHolds shiftHolds
@@ -227,36 +222,39 @@ module _ (m : ℕ) (s : State) (t : List ℕ) (k u : ℕ) (φ : Shift) (b : List
       token-passes m s t (dump k u φ) b ok (dump-token h)
       ∙ rest-alone m s t (dump k u φ) b refl (request-limits m s t (dump k u φ) b (taskFits u ∷ noOffset k ∷ shiftFits φ) refl ok .left)
 
-  -- what a pass says: the segment lies in memory, and its text in the buffer
-  module _ (h : verdictOn m s t (dump k u φ) b ≡ pass) where
-    all-dump : Passed (checks m s t (dump k u φ) b)
-    all-dump = passed-on m s t (dump k u φ) b h
+  -- what a pass says: the segment lies in memory
+  pub dump-inside : verdictOn m s t (dump k u φ) b ≡ pass → namedEntry t k .base + namedEntry t k .length ≤ m
+  dump-inside h =
+      let p : Passed (checks m s t (dump k u φ) b) = passed-on m s t (dump k u φ) b h in
+      reached-inside m t (numberOf k) (search) (search) (search)
 
-    pub dump-inside : namedEntry t k .base + namedEntry t k .length ≤ m
-    dump-inside = reached-inside m t (numberOf k) (let p = all-dump in search) (let p = all-dump in search) (let p = all-dump in search)
+-- ---- place 14: the room that the text of a segment needs, which is one of the memory
 
-    pub dump-room : (namedEntry t k .length ≤ 23820) × (writtenLength (namedEntry t k .length) ≤ length b)
-    dump-room =
-        let p = all-dump in
-        let w : writtenLength (namedEntry t k .length) ≤ 65536 = leb-true (writtenLength (namedEntry t k .length)) 65536 (search) in
-        (omega arith, leb-true (writtenLength (namedEntry t k .length)) (length b) (search))
+module _ (memory : List ℕ) (a n : ℕ) (inside : a + n ≤ length memory) where
+  pub text-long : length (written (take n (drop a memory))) ≡ writtenLength n
+  text-long = written-long (take n (drop a memory)) ∙ ap writtenLength (simp (length-take, length-drop) (omega arith))
 
-    pub dump-effect : effectOn m s t (dump k u φ) b ≡ grantDump (namedEntry t k) .effect
-    unfolding grantedEffect
-    dump-effect = effect-pass m s t (dump k u φ) b h
+  text-room : (b : List ℕ) → verdict (lastly (text a n .fill) memory b) ≡ cond (leb (writtenLength n) 65536 && leb (writtenLength n) (length b)) pass (stop atRoom)
+  text-room b = let w = written (take n (drop a memory)) in together atRoom (textShort w ∷ leb (length w) (length b) ∷ []) ∙ rw text-long
 
--- ---- what is handed back
+  pub text-in : (b : List ℕ) → (leb (writtenLength n) 65536 && leb (writtenLength n) (length b)) ≡ true → verdict (lastly (text a n .fill) memory b) ≡ pass
+  text-in b h = text-room b ∙ rw h
 
-handed-back : (m : ℕ) (s : StateWords) (t : List ℕ) (q : Request) (b : List ℕ) (n : ℕ) (f : Effect) → grant m t q b ≡ effecting n f → (r : Imaged) → Comes r m (stateAs s) t q b
-    → (o : Outcome) → o ≡ telling s r → handed o t ≡ rulingOn m (stateAs s) t q b
-unfolding granting
-handed-back m s t q b n f is (imaged.Stop why) h o e = decided-stop m s t q b why o e h
-handed-back m s t q b n f is (imaged.Done l) h o e = decided-pass m (stateAs s) t q b (handed o t) (rw (e, h .1, is)) (h .0)
+  pub text-out : (b : List ℕ) → (leb (writtenLength n) 65536 && leb (writtenLength n) (length b)) ≡ false → verdict (lastly (text a n .fill) memory b) ≡ stop atRoom
+  text-out b h = text-room b ∙ rw h
 
-pub load-handed : (m : ℕ) (s : StateWords) (t : List ℕ) (k u : ℕ) (φ : Shift) (b : List ℕ) (r : Imaged) (o : Outcome) → Comes r m (stateAs s) t (load k u φ) b → o ≡ telling s r
-    → handed o t ≡ rulingOn m (stateAs s) t (load k u φ) b
-load-handed m s t k u φ b r o h e = handed-back m s t (load k u φ) b _ _ refl r h o e
+both : (a b : Bool) → (a && b) ≡ true → (a ≡ true) × (b ≡ true)
+both true true h = (refl, refl)
+both true false h = absurd (true≢false (sym h))
+both false b h = absurd (true≢false (sym h))
 
-pub dump-handed : (m : ℕ) (s : StateWords) (t : List ℕ) (k u : ℕ) (φ : Shift) (b : List ℕ) (r : Imaged) (o : Outcome) → Comes r m (stateAs s) t (dump k u φ) b → o ≡ telling s r
-    → handed o t ≡ rulingOn m (stateAs s) t (dump k u φ) b
-dump-handed m s t k u φ b r o h e = handed-back m s t (dump k u φ) b _ _ refl r h o e
+-- a text that has its room is of few bytes
+pub few-bytes : (n room : ℕ) → (leb (writtenLength n) 65536 && leb (writtenLength n) room) ≡ true → (n ≤ 23820) × (writtenLength n ≤ room)
+few-bytes n room h = let p = both (leb (writtenLength n) 65536) (leb (writtenLength n) room) h in (omega (arith, leb-true (writtenLength n) 65536 (p .0)), leb-true (writtenLength n) room (p .1))
+
+-- what is handed back tells the text's length
+pub dump-handed : (s : StateWords) (t : List ℕ) (k : ℕ) (b memory : List ℕ) (l : ℕ) → let e : Entry = namedEntry t k in
+    e .base + e .length ≤ length memory
+    → l ≡ writtenLength (e .length)
+    → handed (fillingSo s l) t ≡ ruled (Steps.telling (toldLength (text (e .base) (e .length) .fill) memory) (carried (stateAs s) t (grantAccess t dumping k b)))
+dump-handed s t k b memory l inside e = rw (e, text-long memory (namedEntry t k .base) (namedEntry t k .length) inside)

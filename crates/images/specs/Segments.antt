@@ -1,4 +1,4 @@
--- What the checks of a load and of a dump come to, and what they come to themselves.
+-- What the checks of a load and of a dump come to.
 -- Assumes nothing.
 use mathlib.Core.Path.{_≡_}
 use mathlib.Core.Bool.{true}
@@ -14,9 +14,9 @@ use Rattle.checks.specs.declared.reach.Reached.the-variants as reached
 use Rattle.checks.specs.Shifts.{judgedFor}
 use Rattle.leases.specs.declared.lease.Window.{Window}
 use Rattle.machine.specs.Images.{piecesOf}
-use Rattle.machine.specs.Operations.{grant, namedEntry, numberOf}
+use Rattle.machine.specs.Operations.{namedEntry, numberOf}
 use Rattle.machine.specs.Parts.{State}
-use Rattle.machine.specs.Requests.{dump, load, Request, Shift}
+use Rattle.machine.specs.Requests.{dump, load, Shift}
 use Rattle.machine.specs.Steps.{pass, Verdict, verdict}
 use Rattle.machine.specs.Stops.{places, textRead}
 use Rattle.table.specs.declared.state.StateWords.{StateWords}
@@ -48,22 +48,15 @@ LoadToken r w m t k u end =
     (s : State) (φ : Shift) (b : List ℕ) → farthest (piecesOf b) ≡ end → verdict (textRead b) ≡ pass → w ≡ judgedFor φ k → requestHolds m s t (load k u φ) b ≡ true
     → Lies r (verdictOn m s t (load k u φ) b) (namedEntry t k)
 
--- places 7 and 14 of a dump into a buffer of so many bytes, and all but 1, where the leases come to w
-abbrev pub DumpRest : Segment → List ℕ → (token room : ℕ) → Type 0
-DumpRest r t k room =
-    (m u : ℕ) (s : State) (φ : Shift) (b : List ℕ) → length b ≡ room → Lies r (verdict (places m s t (dump k u φ) b .rest)) (namedEntry t k)
+-- place 7 of a dump, and all but 1 and 14, where the leases come to w
+abbrev pub DumpRest : Segment → List ℕ → (token : ℕ) → Type 0
+DumpRest r t k = (m u : ℕ) (s : State) (φ : Shift) (b : List ℕ) → Lies r (verdict (places m s t (dump k u φ) b .rest)) (namedEntry t k)
 
-abbrev pub DumpToken : Segment → Window → ℕ → List ℕ → (token task room : ℕ) → Type 0
-DumpToken r w m t k u room =
-    (s : State) (φ : Shift) (b : List ℕ) → length b ≡ room → w ≡ judgedFor φ k → requestHolds m s t (dump k u φ) b ≡ true
-    → Lies r (verdictOn m s t (dump k u φ) b) (namedEntry t k)
+abbrev pub DumpToken : Segment → Window → ℕ → List ℕ → (token task : ℕ) → Type 0
+DumpToken r w m t k u =
+    (s : State) (φ : Shift) (b : List ℕ) → w ≡ judgedFor φ k → requestHolds m s t (dump k u φ) b ≡ true → Lies r (verdictOn m s t (dump k u φ) b) (namedEntry t k)
 
--- the request q came to the verdict, and if it passes to the length that its grant tells
-abbrev pub Comes : Imaged → ℕ → State → List ℕ → Request → List ℕ → Type 0
-Comes (imaged.Stop why) m s t q b = verdictOn m s t q b ≡ stopAs why
-Comes (imaged.Done n) m s t q b = (verdictOn m s t q b ≡ pass) × (n ≡ grant m t q b .length)
-
--- what is handed back then
+-- what is handed back of what it came to
 abbrev pub telling : StateWords → Imaged → Outcome
 telling s (imaged.Stop why) = refusing s why
 telling s (imaged.Done n) = fillingSo s n

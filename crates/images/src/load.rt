@@ -1,9 +1,7 @@
 // Load: a text of Intel HEX is read into a segment.
 use crate::segment::Imaged;
 use crate::segment::Segment;
-use crate::segment::outcome;
 use crate::segment::reach_segment;
-use accesses::access::Way;
 use accesses::access::holds;
 use checks::reach::Reached;
 use checks::refusal::Refusal;
@@ -14,7 +12,7 @@ use hexread::text::Judged;
 use hexread::text::judge;
 use leases::lease::Window;
 use leases::lease::judge_leases;
-use rulings::reply::Outcome;
+use rulings::request::Way;
 use table::entries::entry_at;
 use table::state::StateWords;
 use tokens::token::Named;
@@ -31,10 +29,10 @@ ghost use Rattle.machine.specs.Images.{piecesOf};
 ghost use Rattle.machine.specs.Operations.{namedEntry, numberOf, placed};
 ghost use Rattle.machine.specs.Parts.{State};
 ghost use Rattle.machine.specs.Requests as request;
-ghost use Rattle.machine.specs.Steps.{memoryAfter, stored};
-ghost use Rattle.table.specs.States.{stateAs};
-ghost use Rattle.rulings.specs.Rulings.{effectOn, handed, rulingOn, verdictOn};
-ghost use Rattle.images.specs.Segments.{Comes, Lies, LoadRest, LoadToken};
+ghost use Rattle.machine.specs.Steps.{stored};
+ghost use Rattle.rulings.specs.Rulings.{verdictOn};
+ghost use Rattle.rulings.specs.Served.{Served};
+ghost use Rattle.images.specs.Segments.{Lies, LoadRest, LoadToken, telling};
 
 // Places 7 and 8: W, and data that end at so many bytes.
 fn load_rest(table: &[u8], token: u64, named: Named, end: u64) -> Segment
@@ -131,8 +129,7 @@ pub(crate) fn load_image(
     task: u64,
     minute: u64,
 ) -> Imaged
-    ensures { λ r. ⌜ Comes r (length (now (memory .entry))) (stateAs s) (now (table .entry)) (request.load token task (shiftAs minute (now (leases .entry)))) (now (text .entry)) ⌝ }
-    ensures { λ _. ⌜ now (memory .exit) ≡ memoryAfter (effectOn (length (now (memory .entry))) (stateAs s) (now (table .entry)) (request.load token task (shiftAs minute (now (leases .entry)))) (now (text .entry))) (now (memory .entry)) ⌝ }
+    ensures { λ r. ⌜ Served (request.load token task (shiftAs minute (now (leases .entry)))) s (now (table .entry)) (now (memory .entry)) (now (text .entry)) (telling s r) (now (table .entry)) (now (memory .exit)) (now (text .entry)) ⌝ }
 {
     let bytes = memory.len() as u64;
     let set = settings(bytes, s, table);
@@ -144,24 +141,4 @@ pub(crate) fn load_image(
             Imaged::Done(0)
         }
     }
-}
-
-// The text is read into the segment: needs W.
-pub fn load(
-    mut s: StateWords,
-    table: &[u8],
-    memory: &mut [u8],
-    text: &[u8],
-    leases: &[u8],
-    token: u64,
-    task: u64,
-    minute: u64,
-) -> Outcome
-    ensures { λ r. ⌜ handed r (now (table .entry)) ≡ rulingOn (length (now (memory .entry))) (stateAs s) (now (table .entry)) (request.load token task (shiftAs minute (now (leases .entry)))) (now (text .entry)) ⌝ }
-    ensures { λ _. ⌜ now (memory .exit) ≡ memoryAfter (effectOn (length (now (memory .entry))) (stateAs s) (now (table .entry)) (request.load token task (shiftAs minute (now (leases .entry)))) (now (text .entry))) (now (memory .entry)) ⌝ }
-{
-    outcome(
-        s,
-        load_image(s, table, memory, text, leases, token, task, minute),
-    )
 }

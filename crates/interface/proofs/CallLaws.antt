@@ -1,35 +1,65 @@
 -- From what the code hands back to what a call leaves.
 -- Assumes nothing.
-use mathlib.Core.Path.{_≡_, _∙_, ap, ap₂, sym}
-use mathlib.Core.Bool.{Bool, true, false, _&&_}
+use mathlib.Core.Path.{_≡_, refl, _∙_, ap, ap₂, sym}
+use mathlib.Core.Bool.{Bool, true, false, _&&_, cond}
 use mathlib.Core.List.{List}
-use Prim.Native.Nat.{ℕ}
+use Prim.Native.Nat.{ℕ, _<_}
 use native.Mathlib.Omega.{arith}
 use lib.Dec.{eqb, eqb→eq, T}
-use lib.ListN.{length}
+use lib.ListN.{getD, length}
+use Rattle.bits.specs.SipHash.{word}
 use Rattle.machine.proofs.Choices.{by-cond}
+use Rattle.machine.proofs.Decided.{away, taken, Turned, turned}
 use Rattle.machine.specs.Parts.{State}
-use Rattle.machine.specs.Requests.{Request}
-use Rattle.machine.specs.Steps.{answer, step}
+use Rattle.machine.specs.Requests.{Access, accessing, Request, Shift}
+use Rattle.machine.specs.Steps.{answer, Machine, step}
 use Rattle.rulings.specs.Rulings.{replyAs}
+use Rattle.rulings.specs.Served.{before, callAs, Served}
 use Rattle.rulings.specs.declared.reply.Outcome.{Outcome}
-use Rattle.operations.specs.Turns.{after, answered, before, callAs}
 use Rattle.table.specs.States.{stateAs}
 use Rattle.table.specs.declared.state.StateWords.{StateWords}
 use Rattle.interface.specs.Exported.{answerBytes, answerSize, Asked, asked, carried, exported, known, Lent, lentFits, requestOf, requestSize, served, shiftOf, sized, stateBytes, stateOf, stateSize}
 use Rattle.interface.specs.Meanings.{left}
+use Rattle.interface.proofs.WordLaws.{words-kept}
 
 -- a step of the code's state, stored, is what a known request leaves
 pub step-carried : (q : Request) (s t m b a : List ℕ) (x : StateWords) (r : Outcome) (n : ℕ) (s′ t′ m′ b′ a′ : List ℕ)
     → stateAs x ≡ stateOf s
-    → (after r t′ m′ ≡ step (before x t m) (callAs q b)) × (answered r b′ ≡ answer (before x t m) (callAs q b))
+    → Served q x t m b r t′ m′ b′
     → s′ ≡ stateBytes (stateAs (r .state))
     → (n ≡ replyAs (r .reply) .refusal) × (a′ ≡ answerBytes (replyAs (r .reply)))
     → left n s′ t′ m′ b′ a′ ≡ carried (known q) s t m b a
 step-carried q s t m b a x r n s′ t′ m′ b′ a′ hx h hs ha =
     rw (hs, ha .0, ha .1)
-    (ap₂ served (h .0) (h .1)
+    (ap₂ served (h .step) (h .answer)
     ∙ ap (λ (z : State). served (step (record { state = z; table = t; memory = m }) (callAs q b)) (answer (record { state = z; table = t; memory = m }) (callAs q b))) hx)
+
+-- ---- an access leaves the state, so that its bytes need not be stored
+
+pub access-leaves : (w : Access) (k u : ℕ) (φ : Shift) (σ : Machine) (b : List ℕ) → step σ (callAs (accessing w k u φ) b) .state ≡ σ .state
+unfolding step
+access-leaves w k u φ σ b = go (turned σ (callAs (accessing w k u φ) b))
+  where
+    go : Turned σ (callAs (accessing w k u φ) b) → step σ (callAs (accessing w k u φ) b) .state ≡ σ .state
+    go (taken a p e) = rw e
+    go (away r e n) = rw e
+
+-- a state's bytes are those of its words
+state-kept : (s : List ℕ) → ((i : ℕ) → getD s i 0 < 256) → length s ≡ stateSize → stateBytes (stateOf s) ≡ s
+state-kept s bytes long = words-kept 5 (word s) s (λ i. refl) bytes long
+
+-- what is stored, or was left where the request leaves the state, is the state's bytes
+pub stored-state : (leaves : Bool) (q : Request) (s t m b : List ℕ) (x : StateWords) (r : Outcome) (s′ t′ m′ b′ : List ℕ)
+    → ((i : ℕ) → getD s i 0 < 256)
+    → length s ≡ stateSize
+    → stateAs x ≡ stateOf s
+    → Served q x t m b r t′ m′ b′
+    → (leaves ≡ true → (σ : Machine) (b : List ℕ) → step σ (callAs q b) .state ≡ σ .state)
+    → s′ ≡ cond leaves s (stateBytes (stateAs (r .state)))
+    → s′ ≡ stateBytes (stateAs (r .state))
+stored-state true q s t m b x r s′ t′ m′ b′ bytes long hx h l e =
+    e ∙ sym (state-kept s bytes long) ∙ ap stateBytes (sym (ap (λ (σ : Machine). σ .state) (h .step) ∙ l refl (before x t m) b ∙ hx))
+stored-state false q s t m b x r s′ t′ m′ b′ bytes long hx h l e = e
 
 -- ---- sizes
 

@@ -9,8 +9,8 @@ use lib.ListN.{getD, length}
 use Rattle.bits.specs.SipHash.{word}
 use Rattle.machine.specs.Operations.{Decision}
 use Rattle.machine.specs.Requests.{noShift, Request, Shift}
-use Rattle.machine.specs.ShiftWindows.{accesses, dumps, InShifts, Leaseless, loads}
-use Rattle.machine.specs.Steps.{answer, bufferAfter, memoryAfter, step}
+use Rattle.machine.specs.ShiftWindows.{accesses, InShifts, Leaseless}
+use Rattle.machine.specs.Steps.{answer, bufferAfter, finished, memoryAfter, step}
 use Rattle.machine.proofs.ShiftWindows.{as-before}
 use Rattle.interface.specs.Exported.{Asked, asked, carried, Exported, exported, known, noLeases, picked, Plain, requestOf, requests, served, shiftOf, sized, stateOf, unknown, withLeases}
 
@@ -32,19 +32,19 @@ picked-alike : (o k x u l m p c : ℕ) (φ ψ : Shift) → Alike φ ψ (picked o
 unfolding picked
 picked-alike o k x u l m p c φ ψ =
     at-place φ ψ {js = requests k x u l m p c φ} {ks = requests k x u l m p c ψ}
-    (more same (more (shifts accesses) (more (shifts accesses) (more (shifts accesses) (more same (more same (more same (more same (more same (more same (more same (more same (more same (more (shifts loads) (more (shifts dumps) (more same (more same none)))))))))))))))))
+    (more same (more (shifts accesses) (more (shifts accesses) (more (shifts accesses) (more same (more same (more same (more same (more same (more same (more same (more same (more same (more (shifts accesses) (more (shifts accesses) (more same (more same none)))))))))))))))))
     o
 
 -- an access of a controller without shifts
 plain-leaseless : {q r : Request} {k : ℕ} {φ : Shift} → InShifts q r k φ noShift → Leaseless r
 plain-leaseless accesses p j ψ accesses = (refl, omega arith)
-plain-leaseless loads p j ψ loads = (refl, omega arith)
-plain-leaseless dumps p j ψ dumps = (refl, omega arith)
 
 module _ (s t m b a : List ℕ) where
-  -- what a decision leaves
+  -- what a decision leaves, with the last stage
   abbrev left : Decision → Exported
-  left d = served (record { state = d .state; table = d .table; memory = memoryAfter (d .effect) m }) (record { reply = d .reply; buffer = bufferAfter (d .effect) m b })
+  left blind =
+      let d : Decision = finished (stateOf s) t m b blind in
+      served (record { state = d .state; table = d .table; memory = memoryAfter (d .effect) m }) (record { reply = d .reply; buffer = bufferAfter (d .effect) m b })
 
   carried-alike : (φ : Shift) (j k : Asked) → Alike φ noShift j k → ((r : Request) → j ≡ known r → Leaseless r) → carried j s t m b a ≡ carried k s t m b a
   unfolding step answer

@@ -2,7 +2,7 @@
 -- Assumes nothing.
 use mathlib.Core.List.{List, [], _∷_}
 use Prim.Native.Nat.{ℕ}
-use Rattle.operations.specs.Turns.{requestAs}
+use Rattle.rulings.specs.Asked.{requestAs}
 use Rattle.interface.specs.Exported.{Asked, Exported, known, unknown}
 use Rattle.interface.specs.declared.answer.AnswerWords.{AnswerWords}
 use Rattle.interface.specs.declared.request.Asked as code

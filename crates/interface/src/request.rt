@@ -1,6 +1,8 @@
 // A request as bytes: its words one after the other.
 use crate::words::word_at;
-use operations::serve::Request;
+use rulings::request::Image;
+use rulings::request::Request;
+use rulings::request::Way;
 ghost use mathlib.Core.Path.{_≡_};
 ghost use mathlib.Core.List.{List, []};
 ghost use Prim.Native.Nat.{ℕ};
@@ -39,17 +41,20 @@ fn pick(
             key1: second,
             first_nonce: task,
         }),
-        1 => Asked::Known(Request::Read {
+        1 => Asked::Known(Request::Access {
+            way: Way::Read,
             token,
             task,
             minute,
         }),
-        2 => Asked::Known(Request::Write {
+        2 => Asked::Known(Request::Access {
+            way: Way::Write,
             token,
             task,
             minute,
         }),
-        3 => Asked::Known(Request::Fetch {
+        3 => Asked::Known(Request::Access {
+            way: Way::Fetch,
             token,
             task,
             minute,
@@ -81,12 +86,14 @@ fn pick(
         10 => Asked::Known(Request::Lock { token, task }),
         11 => Asked::Known(Request::Unlock { token, task }),
         12 => Asked::Known(Request::Revoke { token, encoding }),
-        13 => Asked::Known(Request::Load {
+        13 => Asked::Known(Request::Image {
+            kind: Image::Load,
             token,
             task,
             minute,
         }),
-        14 => Asked::Known(Request::Dump {
+        14 => Asked::Known(Request::Image {
+            kind: Image::Dump,
             token,
             task,
             minute,

@@ -9,6 +9,27 @@ ghost use Rattle.bits.specs.Fields.{pack, unpack};
 ghost use Rattle.bits.specs.Bytes.{bytes, number};
 ghost use Rattle.layout.specs.Entry.{bit, direct, directNumber, directOf, endFields, endFrom, endWidths, entryAt, entryBytes, entryNumber, entryOf, Fits, free, freed, indirect, indirectNumber, indirectOf, packable, paged, pagedNumber, pagedOf, recounted, relocked, wordsNumber, writable, written, zerosWidth};
 
+// Two to the nth: a remainder by it is the low n bits.
+const TWO_16: u64 = 1 << 16;
+
+const TWO_29: u64 = 1 << 29;
+
+const TWO_32: u64 = 1 << 32;
+
+const TWO_35: u64 = 1 << 35;
+
+const TWO_39: u64 = 1 << 39;
+
+const TWO_45: u64 = 1 << 45;
+
+const TWO_50: u64 = 1 << 50;
+
+const TWO_54: u64 = 1 << 54;
+
+const TWO_55: u64 = 1 << 55;
+
+const TWO_61: u64 = 1 << 61;
+
 // An entry: every field of every type. A field that its type does not have is zero.
 pub struct Entry {
     // The type: 0 free, 1 direct, 2 indirect, 3 paged out.
@@ -133,7 +154,7 @@ fn direct_words(e: Entry) -> Words
 fn indirect_b(parent: u64, length: u32) -> u64
     ensures { λ r. ⌜ r ≡ pack (35 ∷ 29 ∷ []) (parent % 2 ^ 35 ∷ length / 8 ∷ []) ⌝ }
 {
-    (parent % (1 << 35) << 29) + (length as u64) / 8
+    (parent % TWO_35 << 29) + (length as u64) / 8
 }
 
 fn indirect_words(e: Entry) -> Words
@@ -211,8 +232,8 @@ fn end_of(kind: u8, d: u64) -> Entry
         locked: (d >> 50) % 2 == 1,
         lockable: (d >> 49) % 2 == 1,
         cow: (d >> 48) % 2 == 1,
-        tag: ((d >> 32) % (1 << 16)) as u16,
-        nonce: (d % (1 << 32)) as u32,
+        tag: ((d >> 32) % TWO_16) as u16,
+        nonce: (d % TWO_32) as u32,
     }
 }
 
@@ -225,11 +246,11 @@ fn direct_of(w: Words) -> Entry
     let c = w.c;
     let d = w.d;
     let mut e = end_of(1, d);
-    e.base = ((a >> 29) % (1 << 32)) as u32;
-    e.length = (a % (1 << 29) * 8 + (b >> 61)) as u32;
-    e.count = ((b >> 45) % (1 << 16)) as u16;
-    e.holder = b % (1 << 45) * 1024 + (c >> 54);
-    e.user = c % (1 << 54) * 1024 + (d >> 54);
+    e.base = ((a >> 29) % TWO_32) as u32;
+    e.length = (a % TWO_29 * 8 + (b >> 61)) as u32;
+    e.count = ((b >> 45) % TWO_16) as u16;
+    e.holder = b % TWO_45 * 1024 + (c >> 54);
+    e.user = c % TWO_54 * 1024 + (d >> 54);
     e
 }
 
@@ -242,11 +263,11 @@ fn indirect_of(w: Words) -> Entry
     let c = w.c;
     let d = w.d;
     let mut e = end_of(2, d);
-    e.base = ((a >> 29) % (1 << 32)) as u32;
-    e.parent = a % (1 << 29) * (1 << 35) + (b >> 29);
-    e.length = (b % (1 << 29) * 8 + (c >> 61)) as u32;
-    e.count = ((c >> 45) % (1 << 16)) as u16;
-    e.zeros = c % (1 << 45) * 1024 + (d >> 54);
+    e.base = ((a >> 29) % TWO_32) as u32;
+    e.parent = a % TWO_29 * TWO_35 + (b >> 29);
+    e.length = (b % TWO_29 * 8 + (c >> 61)) as u32;
+    e.count = ((c >> 45) % TWO_16) as u16;
+    e.zeros = c % TWO_45 * 1024 + (d >> 54);
     e
 }
 
@@ -259,10 +280,10 @@ fn paged_of(w: Words) -> Entry
     let c = w.c;
     let d = w.d;
     let mut e = end_of(3, d);
-    e.page = a % (1 << 61) * 8 + (b >> 61);
-    e.length = ((b >> 29) % (1 << 32)) as u32;
-    e.zeros = b % (1 << 29) * 1024 + (c >> 54);
-    e.user = c % (1 << 54) * 1024 + (d >> 54);
+    e.page = a % TWO_61 * 8 + (b >> 61);
+    e.length = ((b >> 29) % TWO_32) as u32;
+    e.zeros = b % TWO_29 * 1024 + (c >> 54);
+    e.user = c % TWO_54 * 1024 + (d >> 54);
     e
 }
 
@@ -290,7 +311,7 @@ pub fn kind_of(w: Words) -> u8
 pub fn tag_of(w: Words) -> u16
     ensures { λ r. ⌜ r ≡ entryOf (wordsNumber w) .tag ⌝ }
 {
-    ((w.d >> 32) % (1 << 16)) as u16
+    ((w.d >> 32) % TWO_16) as u16
 }
 
 // The others go by the type.
@@ -298,7 +319,7 @@ pub fn base_of(w: Words) -> u32
     ensures { λ r. ⌜ r ≡ entryOf (wordsNumber w) .base ⌝ }
 {
     let kind = w.a >> 61;
-    let base = ((w.a >> 29) % (1 << 32)) as u32;
+    let base = ((w.a >> 29) % TWO_32) as u32;
     match kind {
         1 => base,
         2 => base,
@@ -311,8 +332,8 @@ pub fn count_of(w: Words) -> u16
 {
     let kind = w.a >> 61;
     match kind {
-        1 => ((w.b >> 45) % (1 << 16)) as u16,
-        2 => ((w.c >> 45) % (1 << 16)) as u16,
+        1 => ((w.b >> 45) % TWO_16) as u16,
+        2 => ((w.c >> 45) % TWO_16) as u16,
         _ => 0,
     }
 }
@@ -321,7 +342,7 @@ pub fn count_of(w: Words) -> u16
 fn with_count(word: u64, count: u16) -> u64
     ensures { λ r. ⌜ r ≡ pack (3 ∷ 16 ∷ 45 ∷ []) (word / 2 ^ 61 ∷ count ∷ word % 2 ^ 45 ∷ []) ⌝ }
 {
-    ((word >> 61) << 61) + ((count as u64) << 45) + word % (1 << 45)
+    ((word >> 61) << 61) + ((count as u64) << 45) + word % TWO_45
 }
 
 // The words of the same entry with another count. Only types 1 and 2 have one: an entry that is paged
@@ -352,7 +373,7 @@ pub fn recounted(w: Words, count: u16) -> Words
 fn with_locked(word: u64, locked: bool) -> u64
     ensures { λ r. ⌜ r ≡ pack (13 ∷ 1 ∷ 50 ∷ []) (word / 2 ^ 51 ∷ bit locked ∷ word % 2 ^ 50 ∷ []) ⌝ }
 {
-    ((word >> 51) << 51) + (bit_of(locked) << 50) + word % (1 << 50)
+    ((word >> 51) << 51) + (bit_of(locked) << 50) + word % TWO_50
 }
 
 // A direct entry's second word with another lock holder: its high 45 bits.
@@ -373,7 +394,7 @@ pub fn relocked(w: Words, locked: bool, holder: u64) -> Words
         1 => Words {
             a: w.a,
             b: with_holder(w.b, holder),
-            c: user_word(holder, w.c % (1 << 54) * 1024),
+            c: user_word(holder, w.c % TWO_54 * 1024),
             d: with_locked(w.d, locked),
         },
         2 => Words {
@@ -413,13 +434,13 @@ fn store(part: &mut [u8], e: Entry)
 fn zeros_end(kind: u8) -> u64
     ensures { λ r. ⌜ r ≡ 2 ^ zerosWidth kind ⌝ }
 {
-    if kind == 3 { 1 << 39 } else { 1 << 55 }
+    if kind == 3 { TWO_39 } else { TWO_55 }
 }
 
 fn packable(e: Entry) -> bool
     ensures { λ r. ⌜ r ≡ packable e ⌝ }
 {
-    (e.kind < 4) & (e.permissions < 8) & (e.holder < 1 << 55) & (e.zeros < zeros_end(e.kind))
+    (e.kind < 4) & (e.permissions < 8) & (e.holder < TWO_55) & (e.zeros < zeros_end(e.kind))
 }
 
 // The entry is written to a part of 32 bytes if its type has a layout and its fields fit; else

@@ -24,7 +24,8 @@ ghost use Rattle.machine.specs.Operations.{numberOf};
 ghost use Rattle.machine.specs.Requests as request;
 ghost use Rattle.table.specs.States.{stateAs};
 ghost use Rattle.tokens.specs.Token as tokens;
-ghost use Rattle.rulings.specs.Rulings.{handed, rulingOn, verdictOn};
+ghost use Rattle.rulings.specs.Rulings.{handed, verdictOn};
+ghost use Rattle.rulings.specs.Served.{ServedAlone};
 ghost use Rattle.locks.specs.Locks.{relocking};
 
 // Place 1, which lock and unlock share, for a token that is read as named.
@@ -105,7 +106,7 @@ fn relock_at(mut s: StateWords, table: &mut [u8], n: usize, locked: bool, holder
 
 // The line is locked for the task.
 pub fn lock(mut s: StateWords, table: &mut [u8], memory: &[u8], token: u64, task: u64) -> Outcome
-    ensures { λ r. ⌜ handed r (now (table .exit)) ≡ rulingOn (length (now (memory .entry))) (stateAs s) (now (table .entry)) (request.lock token task) [] ⌝ }
+    ensures { λ r. ⌜ ServedAlone (request.lock token task) s (now (table .entry)) (now (memory .entry)) r (now (table .exit)) (now (memory .entry)) ⌝ }
 {
     let r = check_lock(s, table, memory.len() as u64, token, read(token), task);
     match r {
@@ -116,7 +117,7 @@ pub fn lock(mut s: StateWords, table: &mut [u8], memory: &[u8], token: u64, task
 
 // The line is unlocked, by the task that holds its lock.
 pub fn unlock(mut s: StateWords, table: &mut [u8], memory: &[u8], token: u64, task: u64) -> Outcome
-    ensures { λ r. ⌜ handed r (now (table .exit)) ≡ rulingOn (length (now (memory .entry))) (stateAs s) (now (table .entry)) (request.unlock token task) [] ⌝ }
+    ensures { λ r. ⌜ ServedAlone (request.unlock token task) s (now (table .entry)) (now (memory .entry)) r (now (table .exit)) (now (memory .entry)) ⌝ }
 {
     let r = check_unlock(s, table, memory.len() as u64, token, read(token), task);
     match r {

@@ -16,9 +16,9 @@ use Rattle.layout.specs.declared.entry.Entry.{Entry}
 use Rattle.layout.specs.Entry.{Laid, laidDirect, laidIndirect, laidPaged}
 use Rattle.layout.proofs.FormLaws.{ill-as, laid}
 use Rattle.bits.proofs.TestLaws.{both}
-use Rattle.machine.specs.Demand3.{above, itself, Owns}
 use Rattle.machine.specs.Line.{isPaged, links, parentNumber, parentTag}
 use Rattle.machine.specs.Parts.{at, put, size}
+use Rattle.machine.specs.Segments.{above, itself, Owns}
 use Rattle.machine.proofs.TableLaws.{at-other, at-same, size-put}
 
 -- ---- tests

@@ -1,21 +1,27 @@
 -- A request is granted, with all its checks passed, or refused, with one of 01's numbers.
 -- Assumes nothing.
-use mathlib.Core.Path.{_≡_, refl, ap, _∙_}
-use mathlib.Core.Logic.{_⊎_, inl, inr}
-use mathlib.Core.Bool.{Bool, true, false, cond}
+use mathlib.Core.Path.{_≡_, refl, sym, ap, _∙_}
+use mathlib.Core.Logic.{_≢_, _⊎_, inl, inr}
+use mathlib.Core.Bool.{Bool, true, false, not, _&&_, cond}
 use mathlib.Core.List.{List, [], _∷_, _++_, append-assoc}
 use Prim.Native.Nat.{ℕ, _≤_}
 use native.Mathlib.Omega.{arith}
-use lib.ListN.{length}
-use borrow.Author.Tests.{leb-true}
-use Rattle.machine.specs.Demand3.{Accepted}
+use lib.Dec.{eqb, leb}
+use lib.ListN.{drop, length, take}
+use borrow.Author.Tests.{eqb-false, le-leb, leb-true, not-true}
+use Rattle.bits.proofs.TestLaws.{both}
+use Rattle.layout.specs.declared.entry.Entry.{Entry}
+use Rattle.tokens.specs.Permissions.{within}
+use Rattle.tokens.specs.Token.{named}
+use Rattle.machine.specs.Images.{mostText}
 use Rattle.machine.specs.Line.{ancestor, itself}
-use Rattle.machine.specs.Operations.{book, carried, Decision, grant}
+use Rattle.machine.specs.MachineSystem.{Accepted}
+use Rattle.machine.specs.Operations.{book, carried, Decision, entire, Fill, front, Grant, grant, namedEntry, unfilled}
 use Rattle.machine.specs.Parts.{spent, State}
 use Rattle.machine.specs.Refusals.{Told}
-use Rattle.machine.specs.Requests.{Call, Request}
-use Rattle.machine.specs.Steps.{answer, decide, decision, Machine, pass, refused, settle, stop, Verdict, verdict}
-use Rattle.machine.specs.Stops.{atBounds, atChecksum, atEntry, atForm, atKind, atLease, atLine, atLock, atNonces, atNumbers, atPaged, atRecord, atRequest, atRight, atRoom, atStanding, atWindow, Check, checks, needAll, noncesLeft, Places, places, Refusal, refusalBad, refusalNumber, sizes}
+use Rattle.machine.specs.Requests.{Access, accessing, Call, Request, rightFor, Shift}
+use Rattle.machine.specs.Steps.{answer, blind, concluded, decide, decision, finished, limited, Machine, pass, refused, settle, stop, telling, toldLength, Verdict, verdict}
+use Rattle.machine.specs.Stops.{Asked, asks, atBounds, atChecksum, atEntry, atForm, atKind, atLease, atLine, atLock, atNonces, atNumbers, atPaged, atRecord, atRequest, atRight, atRoom, atStanding, atWindow, Check, checks, lastly, leasesSound, needAll, noncesLeft, Places, places, reachable, Refusal, refusalBad, refusalNumber, rightsHeld, settings, shiftFits, sizes, taskFits, windowOpen}
 use Rattle.machine.proofs.Choices.{by-cond}
 
 -- ---- what a refusal tells
@@ -74,6 +80,26 @@ pub passing : (cs : List Check) → Passed cs → verdict cs ≡ pass
 passing [] h = refl
 passing (c ∷ cs) h = rw (h .0) (passing cs (h .1))
 
+-- what a verdict tells, and a decision by it
+abbrev pub told : Verdict → ℕ
+told pass = 0
+told (stop r) = refusalNumber r
+
+pub settled-told : (v : Verdict) (s : State) (t : List ℕ) (g : Grant) → settle v s t g .reply .refusal ≡ told v
+settled-told pass s t g = refl
+settled-told (stop r) s t g = refl
+
+-- no check of a list has this number
+abbrev pub spared : ℕ → List Check → Bool
+spared n [] = true
+spared n (c ∷ cs) = not (eqb (refusalNumber (c .refusal)) n) && spared n cs
+
+pub not-told : (n : ℕ) → 1 ≤ n → (cs : List Check) → spared n cs ≡ true → told (verdict cs) ≡ n → ⊥
+not-told n l [] h = λ k. omega arith
+not-told n l (c ∷ cs) h =
+    let ab = both _ _ h in
+    by-cond (λ (v : Verdict). told v ≡ n → ⊥) (c .holds) (λ e. not-told n l cs (ab .1)) (λ e k. eqb-false (refusalNumber (c .refusal)) n (not-true _ (ab .0)) k)
+
 -- one list after another
 abbrev pub andThen : Verdict → Verdict → Verdict
 andThen pass v = v
@@ -131,12 +157,83 @@ module _ (m : ℕ) (s : State) (t : List ℕ) (q : Request) (b : List ℕ) (h : 
   pub nonces-passed : book s t (grant m t q b) .state .next ≤ spent
   nonces-passed = leb-true (book s t (grant m t q b) .state .next) spent (last .1 .0)
 
+-- what an access that passes has passed, of whichever kind
+module _ (m : ℕ) (s : State) (t : List ℕ) (w : Access) (k u : ℕ) (φ : Shift) (b : List ℕ) where
+  abbrev e : Entry
+  e = namedEntry t k
+
+  abbrev of : Asked
+  of = asks w (named k .offset) b e
+
+  pub record AccessPassed : Type 0 where
+    pub sizes : AllTrue (sizes m t)
+    pub settings : AllTrue (settings s t)
+    pub task : taskFits u ≡ true
+    pub asked : AllTrue (of .request)
+    pub shift : AllTrue (shiftFits φ)
+    pub after : Passed (of .after)
+    pub sound : leasesSound φ .holds ≡ true
+    pub tokens : Passed (reachable m t k u)
+    pub opened : windowOpen φ k .holds ≡ true
+    pub right : within (rightFor w) (e .permissions) ≡ true
+    pub bounds : Passed (of .bounds)
+    pub nonces : leb (s .next) spent ≡ true
+
+  abbrev one : List Bool
+  one = settings s t ++ (taskFits u ∷ of .request)
+
+  abbrev two : List Check
+  two = of .after ++ (leasesSound φ ∷ [])
+
+  abbrev three : List Check
+  three = reachable m t k u ++ (windowOpen φ k ∷ [])
+
+  abbrev four : List Check
+  four = rightsHeld (rightFor w) e ∷ of .bounds
+
+  abbrev five : List Check
+  five = noncesLeft s t (grant m t (accessing w k u φ) b) ∷ []
+
+  pub access-passed : Passed (checks m s t (accessing w k u φ) b) → AccessPassed
+  access-passed h =
+      let a = passed-split (needAll atRequest (sizes m t ++ (one ++ shiftFits φ))) ((two ++ three) ++ (four ++ five)) h in
+      let f = true-split (sizes m t) (one ++ shiftFits φ) (needed atRequest (sizes m t ++ (one ++ shiftFits φ)) (a .0)) in
+      let g = true-split one (shiftFits φ) (f .1) in
+      let i = true-split (settings s t) (taskFits u ∷ of .request) (g .0) in
+      let c = passed-split (two ++ three) (four ++ five) (a .1) in
+      let d = passed-split two three (c .0) in
+      let l = passed-split (of .after) (leasesSound φ ∷ []) (d .0) in
+      let r = passed-split (reachable m t k u) (windowOpen φ k ∷ []) (d .1) in
+      let z = passed-split four five (c .1) in
+      record {
+        sizes = f .0;
+        settings = i .0;
+        task = i .1 .0;
+        asked = i .1 .1;
+        shift = g .1;
+        after = l .0;
+        sound = l .1 .0;
+        tokens = r .0;
+        opened = r .1 .0;
+        right = z .0 .0;
+        bounds = z .0 .1;
+        nonces = z .1 .0;
+      }
+
+  pub passed-access : AccessPassed → Passed (checks m s t (accessing w k u φ) b)
+  passed-access p =
+      passed-join (needAll atRequest (sizes m t ++ (one ++ shiftFits φ))) ((two ++ three) ++ (four ++ five))
+      (need-all atRequest (sizes m t ++ (one ++ shiftFits φ)) (true-join (sizes m t) (one ++ shiftFits φ) (p .sizes) (true-join one (shiftFits φ) (true-join (settings s t) (taskFits u ∷ of .request) (p .settings) (p .task, p .asked)) (p .shift))))
+      (passed-join (two ++ three) (four ++ five)
+      (passed-join two three (passed-join (of .after) (leasesSound φ ∷ []) (p .after) (p .sound, tt)) (passed-join (reachable m t k u) (windowOpen φ k ∷ []) (p .tokens) (p .opened, tt)))
+      (passed-join four five (p .right, p .bounds) (p .nonces, tt)))
+
 -- what holds of a pass, with the checks passed, and of every stop, holds of the verdict
 by-checks : (P : Verdict → Type 0) (cs : List Check) → (Passed cs → P pass) → ((r : Refusal) → P (stop r)) → P (verdict cs)
 by-checks P [] f g = f tt
 by-checks P (c ∷ cs) f g = by-cond P (c .holds) (λ h. by-checks P cs (λ p. f (h, p)) g) (λ h. g (c .refusal))
 
--- and so of the decision on a request
+-- and so of what is decided on a request without a look at memory
 pub by-decision : (P : Decision → Type 0) (m : ℕ) (s : State) (t : List ℕ) (q : Request) (b : List ℕ)
     → (Passed (checks m s t q b) → P (carried s t (grant m t q b)))
     → ((r : Refusal) → P (refused s t r))
@@ -144,22 +241,29 @@ pub by-decision : (P : Decision → Type 0) (m : ℕ) (s : State) (t : List ℕ)
 unfolding decide
 by-decision P m s t q b f g = by-checks (λ (v : Verdict). P (settle v s t (grant m t q b))) (checks m s t q b) f g
 
--- one whose checks pass is accepted
-pub granted-by : (σ : Machine) (q : Call) → Passed (checks (length (σ .memory)) (σ .state) (σ .table) (q .request) (q .buffer)) → Accepted σ q
+-- one whose checks pass, and the last ones, of what it makes, is accepted
+pub granted-by : (σ : Machine) (q : Call) → Passed (checks (length (σ .memory)) (σ .state) (σ .table) (q .request) (q .buffer))
+    → Passed (lastly (grant (length (σ .memory)) (σ .table) (q .request) (q .buffer) .effect .fill) (σ .memory) (q .buffer)) → Accepted σ q
 unfolding answer decide
-granted-by σ q h = rw (passing (checks (length (σ .memory)) (σ .state) (σ .table) (q .request) (q .buffer)) h)
+granted-by σ q h l =
+    rw (passing (checks (length (σ .memory)) (σ .state) (σ .table) (q .request) (q .buffer)) h, passing (lastly (grant (length (σ .memory)) (σ .table) (q .request) (q .buffer) .effect .fill) (σ .memory) (q .buffer)) l)
 
--- all checks but the last, place 11; one that passes these is accepted, or refused by 11
+-- all checks but place 11; one that passes these, and the last ones, is accepted, or refused by 11
 abbrev pub judged : ℕ → State → List ℕ → Request → List ℕ → List Check
 judged m s t q b = let p = places m s t q b in needAll atRequest (sizes m t ++ p .request) ++ ((p .after ++ p .tokens) ++ p .rest)
 
-pub but-nonces : (σ : Machine) (q : Call) → Passed (judged (length (σ .memory)) (σ .state) (σ .table) (q .request) (q .buffer)) → Accepted σ q ⊎ (answer σ q .reply .refusal ≡ 11)
+pub but-nonces : (σ : Machine) (q : Call) → Passed (judged (length (σ .memory)) (σ .state) (σ .table) (q .request) (q .buffer))
+    → Passed (lastly (grant (length (σ .memory)) (σ .table) (q .request) (q .buffer) .effect .fill) (σ .memory) (q .buffer)) → Accepted σ q ⊎ (answer σ q .reply .refusal ≡ 11)
 unfolding answer decide
-but-nonces σ q h =
+but-nonces σ q h l =
     let whole : checks m (σ .state) (σ .table) (q .request) (q .buffer) ≡ cs ++ (nonces ∷ []) =
     rw (append-assoc (needAll atRequest (sizes m (σ .table) ++ p .request)) ((p .after ++ p .tokens) ++ p .rest) (nonces ∷ []), append-assoc (p .after ++ p .tokens) (p .rest) (nonces ∷ [])) in
     let last : verdict (checks m (σ .state) (σ .table) (q .request) (q .buffer)) ≡ verdict (nonces ∷ []) = ap verdict whole ∙ verdict-append cs (nonces ∷ []) ∙ rw (passing cs h) in
-    rw last (by-cond (λ (v : Verdict). (told v ≡ 0) ⊎ (told v ≡ 11)) (nonces .holds) (λ e. inl refl) (λ e. inr refl))
+    let number : Verdict → ℕ = λ v. finished (σ .state) (σ .table) (σ .memory) (q .buffer) (settle v (σ .state) (σ .table) (grant m (σ .table) (q .request) (q .buffer))) .reply .refusal in
+    rw last
+    (by-cond (λ (v : Verdict). (number v ≡ 0) ⊎ (number v ≡ 11)) (nonces .holds)
+    (λ e. inl (rw (passing (lastly (grant (length (σ .memory)) (σ .table) (q .request) (q .buffer) .effect .fill) (σ .memory) (q .buffer)) l)))
+    (λ e. inr refl))
   where
     m : ℕ
     m = length (σ .memory)
@@ -173,8 +277,29 @@ but-nonces σ q h =
     nonces : Check
     nonces = noncesLeft (σ .state) (σ .table) (grant m (σ .table) (q .request) (q .buffer))
 
-    told : Verdict → ℕ
-    told v = settle v (σ .state) (σ .table) (grant m (σ .table) (q .request) (q .buffer)) .reply .refusal
+-- ---- the last stage
+
+-- what is made, where it passes: it keeps to its limit, and has its room
+pub made-fits : (f : Fill) (memory b : List ℕ) → Passed (lastly f memory b) → (limited f memory ≡ true) × (toldLength f memory ≤ length b)
+made-fits unfilled memory b h = (refl, omega arith)
+made-fits (entire a n f) memory b h = (refl, omega arith)
+made-fits (front a n f limit) memory b h = (h .0, leb-true (length (f (take n (drop a memory)))) (length b) (h .1 .0))
+
+pub fits-made : (f : Fill) (memory b : List ℕ) → limited f memory ≡ true → toldLength f memory ≤ length b → Passed (lastly f memory b)
+fits-made unfilled memory b h i = tt
+fits-made (entire a n f) memory b h i = tt
+fits-made (front a n f limit) memory b h i = (h, (le-leb (length (f (take n (drop a memory)))) (length b) i, tt))
+
+-- and where it does not: 14
+pub made-stops : (f : Fill) (memory b : List ℕ) (r : Refusal) → verdict (lastly f memory b) ≡ stop r → r ≡ atRoom
+made-stops unfilled memory b r h = cc
+made-stops (entire a n f) memory b r h = cc
+made-stops (front a n f limit) memory b r h =
+    let o = f (take n (drop a memory)) in
+    by-cond (λ (v : Verdict). v ≡ stop r → r ≡ atRoom) (limit o)
+    (λ i. by-cond (λ (v : Verdict). v ≡ stop r → r ≡ atRoom) (leb (length o) (length b)) (λ j e. cc) (λ j e. cc))
+    (λ i e. cc)
+    h
 
 -- ---- a call
 
@@ -182,24 +307,45 @@ module _ (σ : Machine) (q : Call) where
   abbrev cs : List Check
   cs = checks (length (σ .memory)) (σ .state) (σ .table) (q .request) (q .buffer)
 
-  abbrev given : Decision
-  given = carried (σ .state) (σ .table) (grant (length (σ .memory)) (σ .table) (q .request) (q .buffer))
+  abbrev asked : Grant
+  asked = grant (length (σ .memory)) (σ .table) (q .request) (q .buffer)
 
-  -- it is accepted, having passed its checks, and does what `grant` says; or it is refused
+  -- the last checks, of what it makes
+  abbrev ls : List Check
+  ls = lastly (asked .effect .fill) (σ .memory) (q .buffer)
+
+  abbrev given : Decision
+  given = telling (toldLength (asked .effect .fill) (σ .memory)) (carried (σ .state) (σ .table) asked)
+
+  -- it is accepted, having passed its checks and the last ones, and does what `grant` says; or the last ones stop it; or it is refused before
+  pub data Course : Type 0 where
+    through : Passed cs → Passed ls → blind σ q ≡ carried (σ .state) (σ .table) asked → decision σ q ≡ given → Course
+    late : Passed cs → (r : Refusal) → verdict ls ≡ stop r → blind σ q ≡ carried (σ .state) (σ .table) asked → decision σ q ≡ refused (σ .state) (σ .table) r → Course
+    early : (r : Refusal) → blind σ q ≡ refused (σ .state) (σ .table) r → decision σ q ≡ refused (σ .state) (σ .table) r → Course
+
+  pub course : Course
+  course = by-decision (λ (d : Decision). blind σ q ≡ d → Course) (length (σ .memory)) (σ .state) (σ .table) (q .request) (q .buffer) (λ p e. go p e (verdict ls) refl) (λ r e. early r e (rw e)) refl
+    where
+      go : Passed cs → blind σ q ≡ carried (σ .state) (σ .table) asked → (v : Verdict) → verdict ls ≡ v → Course
+      go p e pass h = through p (passed ls h) e (rw (e, h))
+      go p e (stop r) h = late p r h e (rw (e, h))
+
+  -- in short: accepted or refused
   pub data Turned : Type 0 where
     taken : Accepted σ q → Passed cs → decision σ q ≡ given → Turned
     away : (r : Refusal) → decision σ q ≡ refused (σ .state) (σ .table) r → (Accepted σ q → ⊥) → Turned
 
+  abbrev number : Decision → ℕ
+  number d = d .reply .refusal
+
   pub turned : Turned
   unfolding answer
-  turned =
-      by-decision (λ (d : Decision). decision σ q ≡ d → Turned) (length (σ .memory)) (σ .state) (σ .table) (q .request) (q .buffer)
-      (λ p e. taken (ap number e) p e)
-      (λ r e. away r e (λ a. omega (arith, tells r .least, ap number e)))
-      refl
+  turned = go course
     where
-      number : Decision → ℕ
-      number d = d .reply .refusal
+      go : Course → Turned
+      go (through p l b e) = taken (ap number e) p e
+      go (late p r h b e) = away r e (λ a. omega (arith, tells r .least, ap number e))
+      go (early r b e) = away r e (λ a. omega (arith, tells r .least, ap number e))
 
   pub accepted : Accepted σ q → Passed cs × (decision σ q ≡ given)
   accepted a = go turned
@@ -207,3 +353,36 @@ module _ (σ : Machine) (q : Call) where
       go : Turned → Passed cs × (decision σ q ≡ given)
       go (taken b p e) = (p, e)
       go (away r e n) = absurd (n a)
+
+  -- what it makes fits, and it was granted before a look at memory
+  pub accepted-last : Accepted σ q → Passed ls × (blind σ q ≡ carried (σ .state) (σ .table) asked)
+  unfolding answer
+  accepted-last a = go course
+    where
+      go : Course → Passed ls × (blind σ q ≡ carried (σ .state) (σ .table) asked)
+      go (through p l b e) = (l, b)
+      go (late p r h b e) = absurd (omega (arith, tells r .least, ap number e))
+      go (early r b e) = absurd (omega (arith, tells r .least, ap number e))
+
+  -- a number but 14 is that of its checks
+  pub answered : (n : ℕ) → 1 ≤ n → n ≢ 14 → answer σ q .reply .refusal ≡ n → told (verdict cs) ≡ n
+  unfolding answer decide
+  answered n l m h = go course
+    where
+      go : Course → told (verdict cs) ≡ n
+      go (through p k b e) = absurd (omega (arith, ap number e))
+      go (late p r k b e) = absurd (m (sym h ∙ ap number e ∙ ap refusalNumber (made-stops (asked .effect .fill) (σ .memory) (q .buffer) r k)))
+      go (early r b e) = sym (settled-told (verdict cs) (σ .state) (σ .table) asked) ∙ ap number b ∙ sym (ap number e) ∙ h
+
+  -- an answer's number is the verdict of the checks and then of the last ones
+  pub answer-told : answer σ q .reply .refusal ≡ told (verdict (cs ++ ls))
+  unfolding answer decide
+  answer-told = by (verdict cs) ∙ ap told (sym (verdict-append cs ls))
+    where
+      over : (n : ℕ) (v : Verdict) → concluded v (σ .state) (σ .table) n (carried (σ .state) (σ .table) asked) .reply .refusal ≡ told v
+      over n pass = refl
+      over n (stop r) = refl
+
+      by : (v : Verdict) → finished (σ .state) (σ .table) (σ .memory) (q .buffer) (settle v (σ .state) (σ .table) asked) .reply .refusal ≡ told (andThen v (verdict ls))
+      by pass = over (toldLength (asked .effect .fill) (σ .memory)) (verdict ls)
+      by (stop r) = refl

@@ -17,20 +17,21 @@ use Rattle.bits.specs.Fields.{Fit}
 use Rattle.tokens.specs.Permissions.{within, X}
 use Rattle.tokens.specs.Token.{named}
 use Rattle.layout.specs.declared.entry.Entry.{Entry}
-use Rattle.machine.specs.Demand3.{above, In, IsReset, itself, Owns, resets, Revokes, revokes}
 use Rattle.machine.specs.FreeTotal.{vacant}
 use Rattle.machine.specs.FromReset.{Has, Inside, owned}
 use Rattle.machine.specs.Images.{piecesOf}
 use Rattle.machine.specs.Issuing.{issue, lastHeld, newNumber, otherNonce}
-use Rattle.machine.specs.Line.{isLocked, Line, linked, lineOf, lockedFrom, owner, ownerOf, parentNumber}
-use Rattle.machine.specs.Operations.{carried, childOf, climb, Effect, effecting, fresh, grant, grantCreate, grantDerive, grantDump, grantLoad, grantLock, grantMerge, grantPageIn, grantPageOut, grantRelease, grantRevoke, inOf, issuing, mergedOf, namedEntry, nothing, numberOf, outOf, partOf, Reply, restOf, transfer}
+use Rattle.machine.specs.Line.{isLocked, Line, lineOf, linked, lockedFrom, owner, ownerOf, parentNumber}
+use Rattle.machine.specs.MachineSystem.{IsReset, resets, Revokes, revokes}
+use Rattle.machine.specs.Operations.{carried, childOf, climb, Effect, effectBy, exactly, fillWith, fresh, grant, grantCreate, grantDerive, grantLock, grantMerge, grantPageIn, grantPageOut, grantRelease, grantRevoke, inOf, issuing, Known, mergedOf, namedEntry, nothing, numberOf, outOf, partOf, Reply, restOf, shown, upTo}
 use Rattle.machine.specs.Parts.{at, moved, put, size, spent, State}
-use Rattle.machine.specs.Requests.{access, clone, create, derive, dump, executeOnly, fetching, load, lock, merge, pageIn, pageOut, reading, release, Request, reset, revoke, Shift, taskOf, unlock, Way, writing}
-use Rattle.machine.specs.Stops.{checks}
+use Rattle.machine.specs.Requests.{Access, accessing, clone, create, derive, dumping, executeOnly, fetching, loading, lock, look, merge, moving, pageIn, pageOut, reading, release, Request, reset, revoke, Shift, taskOf, unlock, writing}
+use Rattle.machine.specs.Segments.{above, In, itself, Owns}
+use Rattle.machine.specs.Stops.{asks, checks}
 use Rattle.machine.specs.Writes.{Book, give, Name, nameOf, oneLess, opened, vacate, vacated, Write, write, written}
 use Rattle.machine.proofs.Basics.{direct-present, neqb-true, owner-direct, parent, present, Present, put-all, put2-all, range}
 use Rattle.machine.proofs.Choices.{by-cond}
-use Rattle.machine.proofs.Decided.{Passed, rest-passed}
+use Rattle.machine.proofs.Decided.{access-passed, Passed, rest-passed}
 use Rattle.machine.proofs.Fates.{Anew, core, Deed, Fate, gone, Inv, issued, kept, Names, none, one, Shut, Source, spares, Touches, two}
 use Rattle.machine.proofs.Fuel.{Live, number-first, other-first, other-least, walk-owner, walk-owns}
 use Rattle.machine.proofs.PageWrites.{entryIn, entryNew, entryOut, in-touched, in-writes, Inward, nonceIn, nonceNew, numberNew, out-touched, out-writes, Outward, stateOut}
@@ -72,10 +73,13 @@ owner-open t l u e o h =
 once-stored : {P : Type 0} → (P ⊎ ⊥) ⊎ ⊥ → P
 once-stored (inl (inl h)) = h
 
-touched : (w : Way) (a : ℕ) (b : List ℕ) (x : ℕ) → Touches (transfer w a b) x → (a ≤ x) × (x < a + length b)
-touched reading a b x (inr h) = h
-touched writing a b x h = once-stored h
-touched fetching a b x (inr h) = h
+-- an access touches bytes of the segment alone
+touched : (w : Access) (e : Entry) (o : ℕ) (b : List ℕ) → Passed (asks w o b e .bounds) → (x : ℕ) → Touches (effectBy w e o b) x → In e x
+touched (moving reading) e o b p x (inr h) = omega (arith, leb-true (o + length b) (e .length) (p .0))
+touched (moving writing) e o b p x h = omega (arith, once-stored h, leb-true (o + length b) (e .length) (p .0))
+touched (moving fetching) e o b p x (inr h) = omega (arith, leb-true (o + length b) (e .length) (p .0))
+touched loading e o b p x (inl h) = omega (arith, placed-touches (e .base) (piecesOf b) x h, leb-true (farthest (piecesOf b)) (e .length) (p .0))
+touched dumping e o b p x (inr h) = h
 
 module _ (m : ℕ) (s : State) (t : List ℕ) (inv : Inv m s t) where
   unmoved : (q : Request) (μ ν : ℕ) (ks : List Name) (n : ℕ) → Fate t q μ ν ks stay n (at t n)
@@ -103,19 +107,11 @@ module _ (m : ℕ) (s : State) (t : List ℕ) (inv : Inv m s t) where
       let e : ownerOf l ≡ i = inv .tiled (ownerOf l) i x (record { direct = owner-direct o; inside = owner-range m s t inv x o here }) (record { direct = sh .direct; inside = ins }) in
       owner-open t l u (ends (numberOf k) full live) op (rw e sh)
 
-  deed-access : (w : Way) (k u : ℕ) (φ : Shift) (b : List ℕ) → Passed (checks m s t (access w k u φ) b) → Deed m s t (access w k u φ) (carried s t (grant m t (access w k u φ) b))
+  deed-access : (w : Access) (k u : ℕ) (φ : Shift) (b : List ℕ) → Passed (checks m s t (accessing w k u φ) b) → Deed m s t (accessing w k u φ) (carried s t (grant m t (accessing w k u φ) b))
   deed-access w k u φ b h =
-      deed-none (access w k u φ) (omega arith) refl
-      (λ i x sh nr tc ins.
-      let tc′ = touched w _ b x tc in
-      owner-shut k u (present (namedEntry t k) (search) (search)) (search, search) (search) x (omega (arith, leb-true (named k .offset + length b) (namedEntry t k .length) (search))) i sh ins)
-
-  -- a load or a dump touches bytes of the named entry alone
-  deed-image : (q : Request) (k : ℕ) (n : ℕ) (f : Effect) → Present (namedEntry t k) → Live (lineOf m t (numberOf k)) → not (lockedFrom t (taskOf q) (lineOf m t (numberOf k))) ≡ true
-      → ((x : ℕ) → Touches f x → In (namedEntry t k) x) → Deed m s t q (carried s t (effecting n f))
-  deed-image q k n f full live op touches =
-      deed-none q (omega arith) refl
-      (λ i x sh nr tc ins. owner-shut k (taskOf q) full live op x (touches x tc) i sh ins)
+      let p = access-passed m s t w k u φ b h in
+      deed-none (accessing w k u φ) (omega arith) refl
+      (λ i x sh nr tc ins. owner-shut k u (present (namedEntry t k) (search) (search)) (search, search) (search) x (touched w (namedEntry t k) (named k .offset) b (p .bounds) x tc) i sh ins)
 
   has : {n x : ℕ} → Has t n x → Holds (at t n) x
   has h = (h .direct, h .inside)
@@ -564,7 +560,7 @@ module _ (m : ℕ) (s : State) (t : List ℕ) (inv : Inv m s t) where
           put-fades u (s .total) gs n (there .full) (stays refl refl refl) g (tally-keep u n _ (s .total) (g .storable) (there .full) (there .full))
 
   -- writes that issue nothing, after which the table has faded
-  deed-fading : (q : Request) (ws : List Write) (k : ℕ) → Calm ws → (let b = written 0 (opened s t) ws in Fading t (s .total) (b .table) (b .state .total)) → Deed m s t q (carried s t (record { writes = ws; encoding = 0; dropped = k; length = 0; effect = nothing }))
+  deed-fading : (q : Request) (ws : List Write) (k : ℕ) → Calm ws → (let b = written 0 (opened s t) ws in Fading t (s .total) (b .table) (b .state .total)) → Deed m s t q (carried s t (record { writes = ws; encoding = 0; dropped = k; effect = nothing }))
   deed-fading q ws k c f =
       record {
         up = omega (arith, ap (λ (x : State). x .next) (calm-still 0 (opened s t) ws c .state));
@@ -646,7 +642,7 @@ module _ (m : ℕ) (s : State) (t : List ℕ) (inv : Inv m s t) where
 
   pub deed-granted : (q : Request) (b : List ℕ) → (IsReset q → ⊥) → Passed (checks m s t q b) → Deed m s t q (carried s t (grant m t q b))
   deed-granted (reset k0 k1 ν) b nr h = absurd (nr resets)
-  deed-granted (access w k u φ) b nr h = deed-access w k u φ b h
+  deed-granted (accessing w k u φ) b nr h = deed-access w k u φ b h
   deed-granted (create k u l x p c) b nr h =
       let e : Entry = namedEntry t k in
       deed-create (create k u l x p c) (numberOf k) l x p c
@@ -701,16 +697,6 @@ module _ (m : ℕ) (s : State) (t : List ℕ) (inv : Inv m s t) where
   deed-granted (lock k u) b nr h =
       deed-lock (lock k u) (numberOf k) true u (present (namedEntry t k) (search) (search)) (search, search) (search) (ltb-true u (2 ^ 55) (search)) (not-true _ (search)) refl
   deed-granted (unlock k u) b nr h = deed-lock (unlock k u) (numberOf k) false 0 (present (namedEntry t k) (search) (search)) (search, search) (search) (omega arith) refl refl
-  deed-granted (load k u φ) b nr h =
-      let ends = rest-passed m s t (load k u φ) b h .1 .0 in
-      deed-image (load k u φ) k 0 _ (present (namedEntry t k) (search) (search)) (search, search) (search) (λ x. by x (leb-true (farthest (piecesOf b)) (namedEntry t k .length) ends))
-    where
-      by : (x : ℕ) → farthest (piecesOf b) ≤ namedEntry t k .length → Touches (grantLoad (namedEntry t k) b .effect) x → In (namedEntry t k) x
-      by x e (inl h) = omega (arith, placed-touches (namedEntry t k .base) (piecesOf b) x h)
-  deed-granted (dump k u φ) b nr h = deed-image (dump k u φ) k _ _ (present (namedEntry t k) (search) (search)) (search, search) (search) by
-    where
-      by : (x : ℕ) → Touches (grantDump (namedEntry t k) .effect) x → In (namedEntry t k) x
-      by x (inr h) = h
   deed-granted (pageOut k u f c) b nr h =
       let e : Entry = namedEntry t k in
       deed-out (pageOut k u f c) (numberOf k) f c
@@ -719,6 +705,12 @@ module _ (m : ℕ) (s : State) (t : List ℕ) (inv : Inv m s t) where
       (neqb-true (newNumber s t) 0 (search))
       (ltb-true f (2 ^ 64) (search))
       (leb-true _ spent (search))
+  deed-granted (look v) b nr h = deed-none (look v) (omega arith) refl (λ i x sh nr tc ins. by (shown m t v) x tc)
+    where
+      -- what is known is not looked for in memory
+      by : (o : Known) (x : ℕ) → Touches (record { stores = []; fill = fillWith o }) x → ⊥
+      by (exactly bs) x (inr h) = omega arith
+      by (upTo bs) x (inr h) = omega arith
   deed-granted (pageIn j k u c) b nr h =
       let e : Entry = namedEntry t j in
       let d : Entry = namedEntry t k in

@@ -8,9 +8,9 @@ use native.Mathlib.Omega.{arith}
 use native.Mathlib.Decide.{decLt, ℕ-discrete}
 use lib.ListN.{length, getD, set, replicate, length-set, List·getD-eq-default}
 use lib.Seq.{sets, length-sets, getD-set-same, getD-set-other, set-out}
-use Rattle.hex.specs.Written.{written}
-use Rattle.machine.specs.Operations.{Effect, Fill, fillFrom, Store, textFrom, unfilled}
-use Rattle.machine.specs.Steps.{bufferAfter, filled, memoryAfter, stored}
+use Rattle.machine.specs.Operations.{Effect, entire, Fill, front, Store, unfilled}
+use Rattle.machine.specs.Steps.{bufferAfter, filled, memoryAfter, stored, toldLength}
+use Rattle.machine.specs.Stops.{lastly, room}
 use Rattle.machine.proofs.Fates.{Filled, Stored, Touches}
 use Rattle.machine.proofs.SliceLaws.{sets-other, slice-agree}
 
@@ -55,11 +55,22 @@ memory-agree f m m′ x l h = stored-agree (f .stores) m m′ x l h
 -- what is read from two memories that agree where it is read
 filled-agree : (f : Fill) (m m′ b : List ℕ) → length m ≡ length m′ → ((x : ℕ) → Filled f x → getD m x 0 ≡ getD m′ x 0) → filled f m b ≡ filled f m′ b
 filled-agree unfilled m m′ b l h = refl
-filled-agree (fillFrom a n) m m′ b l h = slice-agree m m′ a n l h
-filled-agree (textFrom a n) m m′ b l h = ap (λ (bs : List ℕ). sets b 0 (written bs)) (slice-agree m m′ a n l h)
+filled-agree (entire a n f) m m′ b l h = ap f (slice-agree m m′ a n l h)
+filled-agree (front a n f limit) m m′ b l h = ap (λ (bs : List ℕ). sets b 0 (f bs)) (slice-agree m m′ a n l h)
 
 pub buffer-agree : (f : Effect) (m m′ b : List ℕ) → length m ≡ length m′ → ((x : ℕ) → Touches f x → getD m x 0 ≡ getD m′ x 0) → bufferAfter f m b ≡ bufferAfter f m′ b
 buffer-agree f m m′ b l h = filled-agree (f .fill) m m′ b l (λ x i. h x (inr i))
+
+-- what is made from two such memories, and so what is judged of it and told
+pub lastly-agree : (f : Fill) (m m′ b : List ℕ) → length m ≡ length m′ → ((x : ℕ) → Filled f x → getD m x 0 ≡ getD m′ x 0) → lastly f m b ≡ lastly f m′ b
+lastly-agree unfilled m m′ b l h = refl
+lastly-agree (entire a n f) m m′ b l h = refl
+lastly-agree (front a n f limit) m m′ b l h = ap (λ (bs : List ℕ). room limit (f bs) b) (slice-agree m m′ a n l h)
+
+pub told-agree : (f : Fill) (m m′ : List ℕ) → length m ≡ length m′ → ((x : ℕ) → Filled f x → getD m x 0 ≡ getD m′ x 0) → toldLength f m ≡ toldLength f m′
+told-agree unfilled m m′ l h = refl
+told-agree (entire a n f) m m′ l h = refl
+told-agree (front a n f limit) m m′ l h = ap (λ (bs : List ℕ). length (f bs)) (slice-agree m m′ a n l h)
 
 -- zeros that were stored
 set-zero : (m : List ℕ) (a x : ℕ) → getD m x 0 ≡ 0 → getD (set m a 0) x 0 ≡ 0

@@ -9,12 +9,13 @@ use native.Mathlib.Omega.{arith}
 use lib.ListN.{length}
 use Rattle.layout.specs.declared.entry.Entry.{Entry}
 use Rattle.tokens.specs.Permissions.{within}
-use Rattle.machine.specs.Demand3.{In, Linked, Revokes}
 use Rattle.machine.specs.FromReset.{Has, Inside, Owned, ownedInAll}
 use Rattle.machine.specs.Line.{links, parentNumber}
-use Rattle.machine.specs.Operations.{Decision, Effect, Fill, fillFrom, nothing, Store, textFrom, unfilled}
+use Rattle.machine.specs.MachineSystem.{Revokes}
+use Rattle.machine.specs.Operations.{Decision, Effect, entire, Fill, front, nothing, Store, unfilled}
 use Rattle.machine.specs.Parts.{at, mostEntries, mostMemory, size, State}
 use Rattle.machine.specs.Requests.{Request, taskOf}
+use Rattle.machine.specs.Segments.{In, Linked}
 use Rattle.machine.specs.Writes.{Name, nameOf}
 use Rattle.machine.proofs.Basics.{Link, link, parent}
 use Rattle.machine.proofs.Tallies.{Tally}
@@ -114,8 +115,8 @@ Stored (w ∷ ws) x = ((w .start ≤ x) × (x < w .start + length (w .bytes))) �
 
 abbrev pub Filled : Fill → ℕ → Type 0
 Filled unfilled x = ⊥
-Filled (fillFrom a n) x = (a ≤ x) × (x < a + n)
-Filled (textFrom a n) x = (a ≤ x) × (x < a + n)
+Filled (entire a n f) x = (a ≤ x) × (x < a + n)
+Filled (front a n f limit) x = (a ≤ x) × (x < a + n)
 
 -- the effect reads or writes byte x
 abbrev pub Touches : Effect → ℕ → Type 0

@@ -9,14 +9,14 @@ use lib.Dec.{leb}
 use lib.ListN.{length}
 use borrow.Author.Tests.{le-leb, leb-true}
 use Rattle.layout.specs.declared.entry.Entry.{Entry}
-use Rattle.machine.specs.Demand3.{resetCall}
 use Rattle.machine.specs.FreeTotal.{Beside, handedTotal, InRange, Kept, Sides, Unseen}
 use Rattle.machine.specs.Issuing.{newNumber, passOver}
+use Rattle.machine.specs.MachineSystem.{resetCall}
 use Rattle.machine.specs.Operations.{Decision, Grant, grant, granted}
 use Rattle.machine.specs.Parts.{at, mostFree, size, spent, State, totalled}
-use Rattle.machine.specs.Requests.{access, Call, clone, create, derive, dump, executeOnly, load, lock, merge, pageIn, pageOut, release, Request, reset, revoke, unlock}
-use Rattle.machine.specs.Steps.{answer, answers, bufferAfter, decide, decision, Machine, memoryAfter, pass, run, settle, step, stop, Verdict, verdict}
-use Rattle.machine.specs.Stops.{checks, places}
+use Rattle.machine.specs.Requests.{accessing, Call, clone, create, derive, executeOnly, lock, look, merge, pageIn, pageOut, release, Request, reset, revoke, unlock}
+use Rattle.machine.specs.Steps.{answer, answers, blind, bufferAfter, concluded, decide, decision, finished, Machine, memoryAfter, pass, run, settle, step, stop, toldLength, Verdict, verdict}
+use Rattle.machine.specs.Stops.{checks, lastly, places}
 use Rattle.machine.specs.Writes.{alter, begin, Book, give, opened, reissue, vacate, Write, write, written}
 use Rattle.machine.proofs.Decided.{away, sizes-passed, taken, Turned, turned}
 use Rattle.machine.proofs.Runs.{anew, count-reset, other, Reset, reset-or-not, step-tally, step-well, Well, well-reset}
@@ -115,11 +115,15 @@ book-same c b k (w ∷ ws) =
     let same : written c (write c (over b k) w) ws ≡ written c (over (write c b w) k′) ws = ap (λ (x : Book). written c x ws) one in
     same ∙ book-same c (write c b w) k′ ws ∙ ap (λ (x : Book). over (written c (write c b w) ws) (x .state .total)) (sym same)
 
+-- a decision with another total
+abbrev with : Decision → ℕ → Decision
+with d k = record { state = totalled (d .state) k; table = d .table; reply = d .reply; issued = d .issued; effect = d .effect }
+
 module _ (m : ℕ) (s : State) (t : List ℕ) (k : ℕ) (old : leb (s .total) (mostFree t) ≡ true) (new : leb k (mostFree t) ≡ true) where
   -- place 1 asks for the range, and no other place looks at the total
   places-same : (q : Request) (b : List ℕ) → places m (totalled s k) t q b ≡ places m s t q b
   places-same (reset k0 k1 ν) b = refl
-  places-same (access w j u φ) b = rw (old, new)
+  places-same (accessing w j u φ) b = rw (old, new)
   places-same (create j u l x p c) b = rw (old, new)
   places-same (merge i j u c) b = rw (old, new)
   places-same (derive j o l p c) b = rw (old, new)
@@ -129,10 +133,9 @@ module _ (m : ℕ) (s : State) (t : List ℕ) (k : ℕ) (old : leb (s .total) (m
   places-same (lock j u) b = rw (old, new)
   places-same (unlock j u) b = rw (old, new)
   places-same (revoke j c) b = rw (old, new)
-  places-same (load j u φ) b = rw (old, new)
-  places-same (dump j u φ) b = rw (old, new)
   places-same (pageOut j u f c) b = rw (old, new)
   places-same (pageIn i j u c) b = rw (old, new)
+  places-same (look v) b = rw (old, new)
 
   module _ (q : Request) (b : List ℕ) where
     abbrev g : Grant
@@ -141,12 +144,8 @@ module _ (m : ℕ) (s : State) (t : List ℕ) (k : ℕ) (old : leb (s .total) (m
     checks-same : checks m (totalled s k) t q b ≡ checks m s t q b
     checks-same = rw (places-same q b, ap (λ (x : Book). x .state .next) (book-same (g .encoding) (opened s t) k (g .writes)))
 
-    -- a decision with another total
-    abbrev with : Decision → ℕ → Decision
-    with d k = record { state = totalled (d .state) k; table = d .table; reply = d .reply; issued = d .issued; effect = d .effect }
-
     settle-same : (v : Verdict) → settle v (totalled s k) t g ≡ with (settle v s t g) (settle v (totalled s k) t g .state .total)
-    settle-same pass = ap (λ (x : Book). record { state = x .state; table = x .table; reply = granted (x .tokens) (g .dropped) (g .length); issued = x .issued; effect = g .effect }) (book-same (g .encoding) (opened s t) k (g .writes))
+    settle-same pass = ap (λ (x : Book). record { state = x .state; table = x .table; reply = granted (x .tokens) (g .dropped) 0; issued = x .issued; effect = g .effect }) (book-same (g .encoding) (opened s t) k (g .writes))
     settle-same (stop r) = refl
 
     decide-same : decide m (totalled s k) t q b ≡ with (decide m s t q b) (decide m (totalled s k) t q b .state .total)
@@ -155,12 +154,28 @@ module _ (m : ℕ) (s : State) (t : List ℕ) (k : ℕ) (old : leb (s .total) (m
         let v : Verdict = verdict (checks m s t q b) in
         subst (λ (x : Verdict). settle x (totalled s k) t g ≡ with (settle v s t g) (settle x (totalled s k) t g .state .total)) (ap verdict (sym checks-same)) (settle-same v)
 
+-- the last stage does not look at it
+conclude-same : (v : Verdict) (s : State) (t : List ℕ) (k n : ℕ) (d : Decision) (k′ : ℕ)
+    → concluded v (totalled s k) t n (with d k′) ≡ with (concluded v s t n d) (concluded v (totalled s k) t n (with d k′) .state .total)
+conclude-same pass s t k n d k′ = refl
+conclude-same (stop r) s t k n d k′ = refl
+
+decision-same : (σ : Machine) (k : ℕ) (q : Call) → σ .state .total ≤ mostFree (σ .table) → k ≤ mostFree (σ .table)
+    → decision (handedTotal σ k) q ≡ with (decision σ q) (decision (handedTotal σ k) q .state .total)
+decision-same σ k q h i =
+    let s : State = σ .state in
+    let t : List ℕ = σ .table in
+    let d : Decision = blind σ q in
+    subst (λ (x : Decision). finished (totalled s k) t (σ .memory) (q .buffer) x ≡ with (decision σ q) (finished (totalled s k) t (σ .memory) (q .buffer) x .state .total))
+    (sym (decide-same (length (σ .memory)) s t k (le-leb _ _ h) (le-leb _ _ i) (q .request) (q .buffer)))
+    (conclude-same (verdict (lastly (d .effect .fill) (σ .memory) (q .buffer))) s t k (toldLength (d .effect .fill) (σ .memory)) d (blind (handedTotal σ k) q .state .total))
+
 step-same : (σ : Machine) (k : ℕ) (q : Call) → σ .state .total ≤ mostFree (σ .table) → k ≤ mostFree (σ .table)
     → let ρ = handedTotal σ k in
     (answer ρ q ≡ answer σ q) × (step ρ q ≡ handedTotal (step σ q) (step ρ q .state .total))
 unfolding answer step
 step-same σ k q h i =
-    let same = decide-same (length (σ .memory)) (σ .state) (σ .table) k (le-leb _ _ h) (le-leb _ _ i) (q .request) (q .buffer) in (
+    let same = decision-same σ k q h i in (
       ap (λ (d : Decision). record { reply = d .reply; buffer = bufferAfter (d .effect) (σ .memory) (q .buffer) }) same,
       ap (λ (d : Decision). record { state = d .state; table = d .table; memory = memoryAfter (d .effect) (σ .memory) }) same,
     )

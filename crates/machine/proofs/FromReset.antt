@@ -3,8 +3,8 @@
 use mathlib.Core.Path.{sym, _∙_}
 use mathlib.Core.List.{_++_}
 use lib.ListN.{length}
-use Rattle.machine.specs.Demand3.{resetCall}
 use Rattle.machine.specs.FromReset.{FromReset}
+use Rattle.machine.specs.MachineSystem.{resetCall}
 use Rattle.machine.specs.Steps.{Machine, run, step}
 use Rattle.machine.specs.Stops.{atRequest, needAll, settings, sizes}
 use Rattle.machine.proofs.Decided.{need-all, passing}

@@ -13,12 +13,12 @@ use Rattle.layout.specs.Form.{illFormed}
 use Rattle.layout.specs.declared.entry.Entry.{Entry}
 use Rattle.layout.specs.Entry.{Laid, laidDirect, laidIndirect, laidPaged}
 use Rattle.layout.proofs.FormLaws.{laid}
-use Rattle.machine.specs.Demand3.{above, itself, Owns}
 use Rattle.machine.specs.Issuing.{after, issue, lastHeld, newNumber, otherNonce, passOver, seek}
-use Rattle.machine.specs.Line.{isDead, isIll, isPaged, Line, linked, lineOf, owner, ownerOf, parentNumber, walk}
+use Rattle.machine.specs.Line.{isDead, isIll, isPaged, Line, lineOf, linked, owner, ownerOf, parentNumber, walk}
 use Rattle.machine.specs.Operations.{climb}
 use Rattle.machine.specs.Parts.{at, size, spent, State}
 use Rattle.machine.specs.Searches.{FirstFree, FirstOther, NoneFree, onward, SameTag}
+use Rattle.machine.specs.Segments.{above, itself, Owns}
 use Rattle.machine.specs.Writes.{vacate, vacated, Write}
 use Rattle.machine.proofs.Basics.{link, parent, Present}
 use Rattle.machine.proofs.Choices.{by-both, by-cond}

@@ -6,8 +6,8 @@ use Prim.Native.Nat.{ℕ, _≤_}
 use native.Mathlib.Omega.{arith}
 use lib.ListN.{length}
 use borrow.Author.Tests.{leb-true}
-use Rattle.machine.specs.Demand3.{IsReset, resets}
 use Rattle.machine.specs.Given.{Given, Gives}
+use Rattle.machine.specs.MachineSystem.{IsReset, resets}
 use Rattle.machine.specs.Operations.{book, carried, grant}
 use Rattle.machine.specs.Parts.{mostEntries, size, State}
 use Rattle.machine.specs.Requests.{Request}
@@ -42,4 +42,5 @@ pub given : Given
 unfolding Given
 given σ q ok =
     let fine = accepted σ q ok in
-    rw (fine .1) (granted-gives (length (σ .memory)) (σ .state) (σ .table) (q .buffer) (q .request) (fine .0))
+    let g = granted-gives (length (σ .memory)) (σ .state) (σ .table) (q .buffer) (q .request) (fine .0) in
+    rw (fine .1) (record { carried = g .carried; root = g .root; few = g .few; words = g .words })

@@ -2,7 +2,7 @@
 -- Assumes nothing.
 use mathlib.Core.Path.{_≡_, refl, sym, ap, subst, _∙_}
 use mathlib.Core.Logic.{_≢_, _⊎_, inl, inr}
-use mathlib.Core.List.{List, [], _∷_, _++_, List·Memᴰ, List·Memᴰ·append-cases, List·Memᴰ·cases-cons, List·Memᴰ·eq-of-singleton, List·Memᴰ·not-nil, Memᴰ·append-right}
+use mathlib.Core.List.{List, [], _∷_, _++_, List·Memᴰ, List·Memᴰ·append-cases, List·Memᴰ·cases-cons, List·Memᴰ·eq-of-singleton, List·Memᴰ·not-nil}
 use Prim.Native.Nat.{ℕ}
 use native.Mathlib.Omega.{arith}
 use native.Mathlib.Decide.{ℕ-discrete}
@@ -10,17 +10,21 @@ use lib.Dec.{eqb}
 use borrow.Author.Tests.{eqb-false, eqb-true, ne-eqb}
 use Rattle.layout.specs.Entry.{freed, isDirect, isFree, isIndirect, isPaged, Storable}
 use Rattle.layout.specs.declared.entry.Entry.{Entry}
-use Rattle.machine.specs.Demand3.{Accepted, HoldsOther, issuedIn, resetCall, Returns, Unreset}
-use Rattle.machine.specs.LastToken.{AllOther, heldAfter, heldWith, Keeps, Kept, NeverAgain, unheld}
+use Rattle.machine.specs.Demand3.{Reset}
+use Rattle.machine.specs.LastToken.{AllOther, heldAfter, heldWith, issuedIn, Kept, NeverAgain, unheld}
+use Rattle.machine.specs.Ledger.{Event, HeldOther, Returned}
+use Rattle.machine.specs.MachineSystem.{ofMachine, resetCall, Unreset}
 use Rattle.machine.specs.Operations.{Decision}
 use Rattle.machine.specs.Parts.{at}
 use Rattle.machine.specs.Requests.{Call}
 use Rattle.machine.specs.Steps.{decision, Machine, run, step}
+use Rattle.machine.specs.System.{event, ledger}
 use Rattle.machine.specs.Writes.{Name, nameOf}
 use Rattle.machine.proofs.Choices.{by-cond}
 use Rattle.machine.proofs.Decided.{accepted}
 use Rattle.machine.proofs.Fates.{Anew, Fate, gone, issued, kept, Names, none, one, two}
-use Rattle.machine.proofs.Runs.{deed-of, held-reset, NotReset, run-well, step-well, Well, well-reset}
+use Rattle.machine.proofs.LedgerLaws.{returned-on}
+use Rattle.machine.proofs.Runs.{by-reset, deed-of, held-first, held-reset, NotReset, run-well, step-well, Well, well-reset}
 
 -- ---- one request
 
@@ -134,41 +138,43 @@ tags-kept σ k0 k1 ν b ok after nr n =
 
 -- ---- a token that is issued again
 
--- the number holds another now
-returns-now : (σ : Machine) (qs : List Call) (k : Name) → HoldsOther (σ .table) k → List·Memᴰ k (issuedIn σ qs) → Returns σ qs k
-returns-now σ [] k h m = absurd (List·Memᴰ·not-nil m)
-returns-now σ (q ∷ qs) k h m = inl (h, m)
+module _ (k : Name) (v : Event) where
+  -- its number held another, and then it is issued
+  returns-after : (l : List Event) (σ : Machine) (qs : List Call) → HeldOther k v l → List·Memᴰ k (issuedIn σ qs) → Returned k v (ledger ofMachine l σ qs)
+  returns-after l σ [] h m = absurd (List·Memᴰ·not-nil m)
+  returns-after l σ (q ∷ qs) h m = go (returns-after (event ofMachine σ q ∷ l) (step σ q) qs (inr h)) (List·Memᴰ·append-cases (decision σ q .issued) m)
+    where
+      go : (List·Memᴰ k (issuedIn (step σ q) qs) → Returned k v (ledger ofMachine l σ (q ∷ qs))) → List·Memᴰ k (decision σ q .issued) ⊎ List·Memᴰ k (issuedIn (step σ q) qs)
+          → Returned k v (ledger ofMachine l σ (q ∷ qs))
+      go f (inl i) = returned-on ofMachine k v (event ofMachine σ q ∷ l) (step σ q) qs (inl (i, h))
+      go f (inr i) = f i
 
--- A token that its number holds, and that is issued later, returns: what is issued is not what is held, so that the number held another before.
-pub returns : (σ : Machine) (qs : List Call) (k : Name) → Well σ → Unreset σ qs → at (σ .table) (k .number) .tag ≡ k .tag → List·Memᴰ k (issuedIn σ qs) → Returns σ qs k
-returns σ [] k inv nr has m = absurd (List·Memᴰ·not-nil m)
-returns σ (q ∷ qs) k inv nr has m =
-    inr (go (λ e. returns (step σ q) qs k (step-well σ q inv (nr .0)) (nr .1) e) (List·Memᴰ·append-cases (decision σ q .issued) m) (ℕ-discrete (at (step σ q .table) n .tag) (k .tag)) (step-moved σ q inv (nr .0) n))
-  where
-    n : ℕ
-    n = k .number
+  -- A token that its number holds, and that is issued later, returns: what is issued is not what is held, so that the number held another before.
+  pub returns : (l : List Event) (σ : Machine) (qs : List Call) → Well σ → Unreset σ qs → at (σ .table) (k .number) .tag ≡ k .tag → List·Memᴰ k (issuedIn σ qs)
+      → Returned k v (ledger ofMachine l σ qs)
+  returns l σ [] inv nr has m = absurd (List·Memᴰ·not-nil m)
+  returns l σ (q ∷ qs) inv nr has m =
+      go (λ e. returns (event ofMachine σ q ∷ l) (step σ q) qs (step-well σ q inv (nr .0)) (nr .1) e) (List·Memᴰ·append-cases (decision σ q .issued) m) (ℕ-discrete (at (step σ q .table) n .tag) (k .tag)) (step-moved σ q inv (nr .0) n)
+    where
+      n : ℕ
+      n = k .number
 
-    go : (at (step σ q .table) n .tag ≡ k .tag → List·Memᴰ k (issuedIn (step σ q) qs) → Returns (step σ q) qs k)
-        → List·Memᴰ k (decision σ q .issued) ⊎ List·Memᴰ k (issuedIn (step σ q) qs) → Dec (at (step σ q .table) n .tag ≡ k .tag) → Moved (σ .table) (step σ q .table) (decision σ q .issued) n
-        → Returns (step σ q) qs k
-    go f (inl h) d v = absurd (anew-of (σ .table) (step σ q .table) k (step-names σ q inv (nr .0)) h .other (sym has))
-    go f (inr h) (yes e) v = f e h
-    go f (inr h) (no e) (inl s) = absurd (e (s ∙ has))
-    go f (inr h) (no e) (inr g) =
-        let a = anew-of (σ .table) (step σ q .table) _ (step-names σ q inv (nr .0)) g in
-        returns-now (step σ q) qs k (record { there = a .full; other = e }) h
-
--- one that returns is issued again: the exception is no wider than 01's
-pub issued-again : (σ : Machine) (qs : List Call) (k : Name) → Returns σ qs k → List·Memᴰ k (issuedIn σ qs)
-issued-again σ (q ∷ qs) k (inl h) = h .1
-issued-again σ (q ∷ qs) k (inr h) = Memᴰ·append-right (decision σ q .issued) (issued-again (step σ q) qs k h)
+      go : (at (step σ q .table) n .tag ≡ k .tag → List·Memᴰ k (issuedIn (step σ q) qs) → Returned k v (ledger ofMachine l σ (q ∷ qs)))
+          → List·Memᴰ k (decision σ q .issued) ⊎ List·Memᴰ k (issuedIn (step σ q) qs) → Dec (at (step σ q .table) n .tag ≡ k .tag) → Moved (σ .table) (step σ q .table) (decision σ q .issued) n
+          → Returned k v (ledger ofMachine l σ (q ∷ qs))
+      go f (inl h) d w = absurd (anew-of (σ .table) (step σ q .table) k (step-names σ q inv (nr .0)) h .other (sym has))
+      go f (inr h) (yes e) w = f e h
+      go f (inr h) (no e) (inl s) = absurd (e (s ∙ has))
+      go f (inr h) (no e) (inr g) =
+          let a = anew-of (σ .table) (step σ q .table) _ (step-names σ q inv (nr .0)) g in
+          returns-after (event ofMachine σ q ∷ l) (step σ q) qs (inl (record { there = a .full; other = e })) h
 
 -- what a request gives, its number then holds; so does a reset's root
 pub given-held : (σ : Machine) (q : Call) (k : Name) → Well σ → NotReset σ q → List·Memᴰ k (decision σ q .issued) → at (step σ q .table) (k .number) .tag ≡ k .tag
 given-held σ q k inv nr m = anew-of (σ .table) (step σ q .table) k (step-names σ q inv nr) m .has
 
-pub root-held : (σ : Machine) (k0 k1 ν : ℕ) (b : List ℕ) (k : Name) → Accepted σ (resetCall k0 k1 ν b) → List·Memᴰ k (decision σ (resetCall k0 k1 ν b) .issued)
-    → at (step σ (resetCall k0 k1 ν b) .table) (k .number) .tag ≡ k .tag
-root-held σ k0 k1 ν b k ok m =
-    let only : List·Memᴰ k (record { number = 0; tag = 0 } ∷ []) = subst (λ (d : Decision). List·Memᴰ k (d .issued)) (accepted σ (resetCall k0 k1 ν b) ok .1) m in
-    held-reset σ k0 k1 ν b ok (k .number) ∙ sym (ap (λ (x : Name). x .tag) (List·Memᴰ·eq-of-singleton only))
+pub root-held : (σ : Machine) (first : Call) (k : Name) → Reset ofMachine σ first → List·Memᴰ k (decision σ first .issued) → at (step σ first .table) (k .number) .tag ≡ k .tag
+root-held σ first k g m =
+    held-first σ first g (k .number)
+    ∙ by-reset σ first (λ c. List·Memᴰ k (decision σ c .issued) → 0 ≡ k .tag) g
+    (λ k0 k1 ν b ok m. sym (ap (λ (x : Name). x .tag) (List·Memᴰ·eq-of-singleton (subst (λ (d : Decision). List·Memᴰ k (d .issued)) (accepted σ (resetCall k0 k1 ν b) ok .1) m)))) m

@@ -13,11 +13,11 @@ use Rattle.layout.specs.Entry.{directFields, directWidths, freed, pagedFields, 
 use Rattle.layout.specs.Form.{illFormed}
 use Rattle.bits.specs.Fields.{Fit}
 use Rattle.layout.specs.declared.entry.Entry.{Entry}
-use Rattle.machine.specs.Demand3.{In}
 use Rattle.machine.specs.Issuing.{issue, lastHeld, newNumber, otherNonce}
 use Rattle.machine.specs.Operations.{fresh, grantPageIn, grantPageOut, inOf, outOf}
 use Rattle.machine.specs.Parts.{at, mostMemory, moved, put, size, spent, State}
 use Rattle.machine.specs.Searches.{FirstFree}
+use Rattle.machine.specs.Segments.{In}
 use Rattle.machine.specs.Writes.{vacated}
 use Rattle.machine.proofs.Basics.{direct-present, put-all, range}
 use Rattle.machine.proofs.Fates.{Touches}

@@ -12,10 +12,10 @@ use borrow.Author.Tests.{eq-eqb, eqb-true, le-leb, leb-true, lt-ltb, ltb-true, n
 use Rattle.layout.specs.Form.{illFormed}
 use Rattle.layout.specs.declared.entry.Entry.{Entry}
 use Rattle.tokens.specs.Token.{named}
-use Rattle.machine.specs.Demand3 as owned
-use Rattle.machine.specs.Demand3.{Accepted, IsReset, resetCall}
+use Rattle.machine.specs.Segments as owned
 use Rattle.machine.specs.Issuing.{newNumber}
 use Rattle.machine.specs.Line.{lineOf, owner, pagedOut, walk}
+use Rattle.machine.specs.MachineSystem.{Accepted, IsReset, resetCall, resets}
 use Rattle.machine.specs.Operations.{grantPageIn, grantPageOut, namedEntry, numberOf}
 use Rattle.machine.specs.Paging.{CameIn, Closes, comesIn, ForNone, goesOut, Idle, inCall, Ins, NoneLocked, numbered, Of, outCall, Outs, Pages, Restored, SameMarks, Takes, under, Unlocked, WentOut}
 use Rattle.machine.specs.Parts.{at, mostMemory, put, size, spent, State}
@@ -259,6 +259,7 @@ takes σ fine j k u c b first second hu hc p idle long longer =
         ),
       ),
     )
+    tt
 
 -- ---- locks
 
@@ -291,6 +292,6 @@ shuts σ (comesIn {j = j} {k = k} {u = u} {c = c} {b = b}) ok t₀ κ (under h) 
 
 pub closes : Closes
 unfolding Closes
-closes σ k0 k1 ν b ok after nr r n m p acc zs nz x q y xy κ given of fr =
+closes σ k0 k1 ν b ok after nr r n m p acc zs nz κ v since gave of fr =
     let B : Machine = run (step σ (resetCall k0 k1 ν b)) after in
-    shut-closes σ k0 k1 ν b ok after nr r (λ i a. no-reset p i) zs nz x q y xy κ given (shuts B p acc _ κ of) fr
+    shut-closes σ (resetCall k0 k1 ν b) (resets, ok) after nr r (λ i. no-reset p (i .0)) zs nz κ v since gave (shuts B p acc _ κ of) fr

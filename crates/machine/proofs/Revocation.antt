@@ -1,6 +1,6 @@
 -- What revocation rests on: an entry that is issued anew or freed closes what was open under it.
 -- Assumes nothing.
-use mathlib.Core.Path.{_≡_, sym, ap, subst, _∙_}
+use mathlib.Core.Path.{_≡_, sym, ap, ap₂, subst, _∙_}
 use mathlib.Core.Logic.{_≢_}
 use mathlib.Core.List.{List, [], _∷_, _++_, append-assoc, List·Memᴰ}
 use Prim.Native.Nat.{ℕ, suc, _≤_, _<_}
@@ -10,20 +10,26 @@ use lib.ListN.{length}
 use borrow.Author.Tests.{eqb-true}
 use Rattle.tokens.specs.Token.{named}
 use Rattle.layout.specs.declared.entry.Entry.{Entry}
-use Rattle.machine.specs.Demand3 as owned
-use Rattle.machine.specs.Demand3.{Accepted, Closed, In, issuedIn, Owns, resetCall, Returns, Under, Unreset}
+use Rattle.machine.specs.Demand3.{Closed, Reset}
+use Rattle.machine.specs.LastToken.{issuedIn}
+use Rattle.machine.specs.Ledger.{Event, Gave, Returned}
 use Rattle.machine.specs.Line.{lineOf, ownerOf, parentNumber}
+use Rattle.machine.specs.MachineSystem.{Accepted, ofMachine, Through, through, Unreset}
 use Rattle.machine.specs.Operations.{numberOf}
 use Rattle.machine.specs.Parts.{at}
-use Rattle.machine.specs.Requests.{access, Call}
+use Rattle.machine.specs.Requests.{accessing, Call, Request}
+use Rattle.machine.specs.Segments as owned
+use Rattle.machine.specs.Segments.{In, Owns, Under}
 use Rattle.machine.specs.Steps.{decision, Machine, run, step}
+use Rattle.machine.specs.System.{ledger}
 use Rattle.machine.specs.Writes.{Name, nameOf}
 use Rattle.machine.proofs.Basics.{Link, link, owner-direct, owner-unique, parent, present, Present}
-use Rattle.machine.proofs.Decided.{accepted}
+use Rattle.machine.proofs.Decided.{accepted, access-passed}
 use Rattle.machine.proofs.Fates.{core, linked-same}
 use Rattle.machine.proofs.Fuel.{Live, walk-owns}
 use Rattle.machine.proofs.LastToken.{given-held, returns, root-held}
-use Rattle.machine.proofs.Runs.{none-append, none-split, NotReset, run-append, run-new, run-old, run-up, run-well, step-up, step-well, Well, well-reset}
+use Rattle.machine.proofs.LedgerLaws.{giving, ledger-append, run-append}
+use Rattle.machine.proofs.Runs.{none-append, none-split, NotReset, run-new, run-old, run-up, run-well, step-up, step-well, Well, well-first}
 
 -- a walk whose first nonce is old was the same walk then
 owns-old : (σ : Machine) (qs : List Call) → Well σ → Unreset σ qs → {n k : ℕ} → Owns (run σ qs .table) n k → at (run σ qs .table) n .nonce < σ .state .next
@@ -49,7 +55,7 @@ pub data Shuts (t₀ : List ℕ) (k : Name) (ν : ℕ) (t t′ : List ℕ) : Typ
 -- ρ is what reset left; A stands where the token was given, B before the request, C after it, D at the end.
 module _ (ρ : Machine) (inv₀ : Well ρ) (l : List Call) (nr : Unreset ρ l) (r : Call) (none-r : NotReset (run ρ l) r) (zs : List Call) (nz : Unreset (step (run ρ l) r) zs)
     (a b : List Call) (ab : a ++ b ≡ l) (k : Name) (shuts : Shuts (run ρ a .table) k (run ρ l .state .next) (run ρ l .table) (step (run ρ l) r .table))
-    (has : at (run ρ a .table) (k .number) .tag ≡ k .tag) (fr : Returns (run ρ a) (b ++ (r ∷ zs)) k → ⊥) where
+    (has : at (run ρ a .table) (k .number) .tag ≡ k .tag) (v : Event) (fr : Returned k v (ledger ofMachine [] (run ρ a) (b ++ (r ∷ zs))) → ⊥) where
   abbrev A : Machine
   A = run ρ a
 
@@ -76,13 +82,13 @@ module _ (ρ : Machine) (inv₀ : Well ρ) (l : List Call) (nr : Unreset ρ l) (
 
   -- B is a run from A, D a run from A, from B and from C
   A→B : run A b ≡ B
-  A→B = sym (run-append ρ a b) ∙ ap (λ (x : List Call). run ρ x) ab
+  A→B = sym (run-append ofMachine ρ a b) ∙ ap (λ (x : List Call). run ρ x) ab
 
   none-on : Unreset A (b ++ (r ∷ zs))
   none-on = none-append A b (r ∷ zs) (none-ab .1) (subst (λ (σ : Machine). Unreset σ (r ∷ zs)) (sym A→B) (none-r, nz))
 
   A→D : run A (b ++ (r ∷ zs)) ≡ D
-  A→D = run-append A b (r ∷ zs) ∙ ap (λ σ. run (step σ r) zs) A→B
+  A→D = run-append ofMachine A b (r ∷ zs) ∙ ap (λ σ. run (step σ r) zs) A→B
 
   A-up-B : A .state .next ≤ B .state .next
   A-up-B = subst (λ (σ : Machine). A .state .next ≤ σ .state .next) A→B (run-up A b A-inv (none-ab .1))
@@ -108,7 +114,7 @@ module _ (ρ : Machine) (inv₀ : Well ρ) (l : List Call) (nr : Unreset ρ l) (
 
       go : Dec (at (D .table) (k .number) .nonce < A .state .next) → at (D .table) (k .number) .nonce < A .state .next
       go (yes i) = i
-      go (no i) = absurd (fr (returns A (b ++ (r ∷ zs)) k A-inv none-on has (subst (λ (x : ℕ). List·Memᴰ (record { number = k .number; tag = x }) (issuedIn A (b ++ (r ∷ zs)))) g (new f (omega arith)))))
+      go (no i) = absurd (fr (returns k v [] A (b ++ (r ∷ zs)) A-inv none-on has (subst (λ (x : ℕ). List·Memᴰ (record { number = k .number; tag = x }) (issuedIn A (b ++ (r ∷ zs)))) g (new f (omega arith)))))
 
   -- its own entry has not been issued by the request
   not-anew : at (D .table) (k .number) .kind ≢ 0 → at (D .table) (k .number) .nonce < A .state .next → B .state .next ≤ at (C .table) (k .number) .nonce → ⊥
@@ -146,14 +152,17 @@ module _ (ρ : Machine) (inv₀ : Well ρ) (l : List Call) (nr : Unreset ρ l) (
       go full old by (above s direct anew u) = not-live by old s direct anew u
       go full old by (itself anew) = not-anew full old anew
 
-  shut-off : Closed D k
-  shut-off w token task shift buffer en et ok =
-      let q : Call = record { request = access w token task shift; buffer = buffer } in
-      let p = accepted D q ok .0 in
-      still-open (numberOf token) en
-      (present (at (D .table) (numberOf token)) (search) (search))
-      (eqb-true (at (D .table) (numberOf token) .tag) (named token .tag) (search) ∙ et)
-      (search, search)
+  shut-off : Closed ofMachine D k
+  shut-off q t ok = go (q .request) t ok
+    where
+      go : (p : Request) → Through p k → Accepted D (record { request = p; buffer = q .buffer }) → ⊥
+      go _ (through {w = w} {token = token} {task = task} {shift = shift} en et) ok =
+          let c : Call = record { request = accessing w token task shift; buffer = q .buffer } in
+          let p = access-passed (length (D .memory)) (D .state) (D .table) w token task shift (q .buffer) (accepted D c ok .0) in
+          still-open (numberOf token) en
+          (present (at (D .table) (numberOf token)) (search) (search))
+          (eqb-true (at (D .table) (numberOf token) .tag) (named token .tag) (search) ∙ et)
+          (search, search)
 
 -- what was given by a request of the whole list, the reset in front, was given in a run from what reset left
 record From (σ : Machine) (first : Call) (l a : List Call) (q : Call) (b : List Call) : Type 0 where
@@ -170,37 +179,47 @@ from σ first l (c ∷ a) q b e =
     let tail : a ++ (q ∷ b) ≡ l = cc in
     record {
       way = a ++ (q ∷ []);
-      comes = run-append (step σ first) a (q ∷ []) ∙ ap (λ (x : Call). step (run (step σ x) a) q) (sym head);
+      comes = run-append ofMachine (step σ first) a (q ∷ []) ∙ ap (λ (x : Call). step (run (step σ x) a) q) (sym head);
       all = append-assoc a (q ∷ []) b ∙ tail;
     }
 
 -- and its number holds it then
-holding : (σ : Machine) (k0 k1 ν : ℕ) (buffer : List ℕ) (l a : List Call) (q : Call) (b : List Call) (k : Name) → Accepted σ (resetCall k0 k1 ν buffer) → Unreset (step σ (resetCall k0 k1 ν buffer)) l
-    → a ++ (q ∷ b) ≡ resetCall k0 k1 ν buffer ∷ l → List·Memᴰ k (decision (run σ a) q .issued) → at (step (run σ a) q .table) (k .number) .tag ≡ k .tag
-holding σ k0 k1 ν buffer l [] q b k ok nr e m =
-    let head : resetCall k0 k1 ν buffer ≡ q = cc in
-    subst (λ (x : Call). List·Memᴰ k (decision σ x .issued) → at (step σ x .table) (k .number) .tag ≡ k .tag) head (root-held σ k0 k1 ν buffer k ok) m
-holding σ k0 k1 ν buffer l (c ∷ a) q b k ok nr e m =
-    let head : resetCall k0 k1 ν buffer ≡ c = cc in
+holding : (σ : Machine) (first : Call) (l a : List Call) (q : Call) (b : List Call) (k : Name) → Reset ofMachine σ first → Unreset (step σ first) l
+    → a ++ (q ∷ b) ≡ first ∷ l → List·Memᴰ k (decision (run σ a) q .issued) → at (step (run σ a) q .table) (k .number) .tag ≡ k .tag
+holding σ first l [] q b k ok nr e m =
+    let head : first ≡ q = cc in
+    subst (λ (x : Call). List·Memᴰ k (decision σ x .issued) → at (step σ x .table) (k .number) .tag ≡ k .tag) head (root-held σ first k ok) m
+holding σ first l (c ∷ a) q b k ok nr e m =
+    let head : first ≡ c = cc in
     let tail : l ≡ a ++ (q ∷ b) = cc in
-    let ρ : Machine = step σ (resetCall k0 k1 ν buffer) in
+    let ρ : Machine = step σ first in
     let both = none-split ρ a (q ∷ b) (subst (λ (x : List Call). Unreset ρ x) tail nr) in
     subst (λ (x : Call). List·Memᴰ k (decision (run (step σ x) a) q .issued) → at (step (run (step σ x) a) q .table) (k .number) .tag ≡ k .tag) head
-    (given-held (run ρ a) q k (run-well ρ a (well-reset σ k0 k1 ν buffer ok) (both .0)) (both .1 .0)) m
+    (given-held (run ρ a) q k (run-well ρ a (well-first σ first ok) (both .0)) (both .1 .0)) m
 
 -- From reset on, whatever list l follows, and whatever request r then shuts the token k, which was given before: k opens no access any more, unless it returns. A
 -- revoke is such a request, and so are a paging out and a paging in.
-pub shut-closes : (σ : Machine) (k0 k1 ν : ℕ) (buffer : List ℕ) → let first : Call = resetCall k0 k1 ν buffer in
-    Accepted σ first → let ρ : Machine = step σ first in
+pub shut-closes : (σ : Machine) (first : Call) → Reset ofMachine σ first → let ρ : Machine = step σ first in
     (l : List Call) → Unreset ρ l → let B : Machine = run ρ l in
     (r : Call) → NotReset B r → (zs : List Call) → Unreset (step B r) zs
-    → (x : List Call) (q : Call) (y : List Call) → x ++ (q ∷ y) ≡ first ∷ l
-    → (k : Name) → List·Memᴰ k (decision (run σ x) q .issued)
-    → Shuts (step (run σ x) q .table) k (B .state .next) (B .table) (step B r .table)
-    → (Returns (step (run σ x) q) (y ++ (r ∷ zs)) k → ⊥)
-    → Closed (run (step B r) zs) k
-shut-closes σ k0 k1 ν buffer ok l nr r none-r zs nz x q y xy k given shuts fr =
-    let first : Call = resetCall k0 k1 ν buffer in
-    let w : From σ first l x q y = from σ first l x q y xy in
-    shut-off (step σ first) (well-reset σ k0 k1 ν buffer ok) l nr r none-r zs nz
-    (w .way) y (w .all) k (rw (w .comes) shuts) (rw (w .comes) (holding σ k0 k1 ν buffer l x q y k ok nr xy given)) (rw (w .comes) fr)
+    → (k : Name) (v : Event) (since : List Event) → Gave k v since (ledger ofMachine [] σ (first ∷ l))
+    → Shuts (v .table) k (B .state .next) (B .table) (step B r .table)
+    → (Returned k v (ledger ofMachine since B (r ∷ zs)) → ⊥)
+    → Closed ofMachine (run (step B r) zs) k
+shut-closes σ first ok l nr r none-r zs nz k v since gave shuts fr =
+    let g = giving ofMachine k v since σ (first ∷ l) gave in
+    let x : List Call = g .before in
+    let q : Call = g .giver in
+    let y : List Call = g .after in
+    let A : Machine = step (run σ x) q in
+    let B : Machine = run (step σ first) l in
+    let w : From σ first l x q y = from σ first l x q y (g .list) in
+    let on : run A y ≡ B = sym (run-append ofMachine σ x (q ∷ y)) ∙ ap (run σ) (g .list) in
+    let all : ledger ofMachine [] A (y ++ (r ∷ zs)) ≡ ledger ofMachine since B (r ∷ zs) =
+    ledger-append ofMachine [] A y (r ∷ zs) ∙ ap₂ (λ (e : List Event) (τ : Machine). ledger ofMachine e τ (r ∷ zs)) (sym (g .rest)) on in
+    shut-off (step σ first) (well-first σ first ok) l nr r none-r zs nz
+    (w .way) y (w .all) k
+    (rw (w .comes) (subst (λ (e : Event). Shuts (e .table) k (B .state .next) (B .table) (step B r .table)) (g .is) shuts))
+    (rw (w .comes) (holding σ first l x q y k ok nr (g .list) (subst (λ (e : Event). List·Memᴰ k (e .issued)) (g .is) (g .given))))
+    v
+    (rw (w .comes) (λ h. fr (subst (λ (e : List Event). Returned k v e) all h)))

@@ -9,14 +9,17 @@ use native.Mathlib.Decide.{decLt}
 use lib.ListN.{length}
 use borrow.Author.Tests.{leb-true}
 use Rattle.layout.specs.declared.entry.Entry.{Entry}
-use Rattle.machine.specs.Demand3.{Accepted, IsReset, issuedIn, NoReset, resetCall, resets, Unreset}
+use Rattle.machine.specs.Demand3 as claim
 use Rattle.machine.specs.FreeTotal.{freeInAll, vacant}
 use Rattle.machine.specs.FromReset.{owned, ownedInAll}
-use Rattle.machine.specs.Operations.{carried, grant, grantReset}
-use Rattle.machine.specs.Parts.{at, begun, cleared, mostEntries, mostFree, mostMemory, put, root, size}
+use Rattle.machine.specs.LastToken.{issuedIn}
+use Rattle.machine.specs.MachineSystem.{Accepted, IsReset, ofMachine, resetCall, resets, Unreset}
+use Rattle.machine.specs.Operations.{carried, Decision, grant, grantReset}
+use Rattle.machine.specs.Parts.{at, begun, cleared, mostEntries, mostFree, mostMemory, put, root, size, State}
 use Rattle.machine.specs.Requests.{Call, Request, reset}
-use Rattle.machine.specs.Steps.{decision, Machine, run, step}
+use Rattle.machine.specs.Steps.{decision, Machine, run, step, telling}
 use Rattle.machine.specs.Stops.{checks}
+use Rattle.machine.specs.System.{Never}
 use Rattle.machine.specs.Writes.{nameOf}
 use Rattle.machine.proofs.Basics.{put-all}
 use Rattle.machine.proofs.Decided.{accepted, away, Passed, taken, Turned, turned}
@@ -39,7 +42,24 @@ Well σ = Inv (length (σ .memory)) (σ .state) (σ .table)
 
 -- the request is no granted reset
 abbrev pub NotReset : Machine → Call → Type 0
-NotReset σ q = IsReset (q .request) → Accepted σ q → ⊥
+NotReset σ q = claim.Reset ofMachine σ q → ⊥
+
+-- whatever length is told
+deed-told : {m : ℕ} {s : State} {t : List ℕ} {q : Request} {d : Decision} {n : ℕ} → Deed m s t q d → Deed m s t q (telling n d)
+deed-told h = record {
+  up = h .up;
+  least = h .least;
+  above = h .above;
+  moves = h .moves;
+  fate = h .fate;
+  names = h .names;
+  carried = h .carried;
+  spared = h .spared;
+  good = h .good;
+  long = h .long;
+  sum = h .sum;
+  tally = h .tally;
+}
 
 pub deed-of : (σ : Machine) (q : Call) → Well σ → NotReset σ q → Deed (length (σ .memory)) (σ .state) (σ .table) (q .request) (decision σ q)
 deed-of σ q inv nr = go (turned σ q)
@@ -48,7 +68,7 @@ deed-of σ q inv nr = go (turned σ q)
     m = length (σ .memory)
 
     go : Turned σ q → Deed m (σ .state) (σ .table) (q .request) (decision σ q)
-    go (taken a p e) = rw e (deed-granted m (σ .state) (σ .table) inv (q .request) (q .buffer) (λ i. nr i a) p)
+    go (taken a p e) = rw e (deed-told (deed-granted m (σ .state) (σ .table) inv (q .request) (q .buffer) (λ i. nr (i, a)) p))
     go (away r e na) = rw e (deed-none m (σ .state) (σ .table) inv (q .request) (omega arith) refl (λ n x sh nr tc ins. spares x tc))
 
 module _ (σ : Machine) (q : Call) (inv : Well σ) (nr : NotReset σ q) where
@@ -96,14 +116,17 @@ reset-or-not σ q = go (turned σ q)
     clash _ b resets w = w
 
     go : Turned σ q → Reset σ q
-    go (taken a p e) = either (λ i. by (q .request) (q .buffer) i a) (λ w. other (λ i a. clash (q .request) (q .buffer) i w)) (granted-fits m (σ .state) (σ .table) (q .request) (q .buffer) p .within)
-    go (away r e na) = other (λ i a. na a)
+    go (taken a p e) = either (λ i. by (q .request) (q .buffer) i a) (λ w. other (λ i. clash (q .request) (q .buffer) (i .0) w)) (granted-fits m (σ .state) (σ .table) (q .request) (q .buffer) p .within)
+    go (away r e na) = other (λ i. na (i .1))
+
+-- a granted reset has its key and its first nonce
+pub by-reset : (σ : Machine) (c : Call) (P : Call → Type 0) → claim.Reset ofMachine σ c → ((k0 k1 ν : ℕ) (b : List ℕ) → Accepted σ (resetCall k0 k1 ν b) → P (resetCall k0 k1 ν b)) → P c
+by-reset σ c P g f = go (c .request) (g .0) (g .1)
+  where
+    go : (r : Request) → IsReset r → Accepted σ (record { request = r; buffer = c .buffer }) → P (record { request = r; buffer = c .buffer })
+    go _ (resets {k0} {k1} {ν}) a = f k0 k1 ν (c .buffer) a
 
 -- ---- lists
-
-pub run-append : (σ : Machine) (a b : List Call) → run σ (a ++ b) ≡ run (run σ a) b
-run-append σ [] b = refl
-run-append σ (q ∷ a) b = run-append (step σ q) a b
 
 pub none-append : (σ : Machine) (a b : List Call) → Unreset σ a → Unreset (run σ a) b → Unreset σ (a ++ b)
 none-append σ [] b n k = k
@@ -116,9 +139,9 @@ none-split σ (q ∷ a) b n =
     ((n .0, rest .0), rest .1)
 
 -- none a reset, so none a granted one
-pub none-granted : (σ : Machine) (qs : List Call) → NoReset qs → Unreset σ qs
+pub none-granted : (σ : Machine) (qs : List Call) → Never ofMachine (ofMachine .Resets) σ qs → Unreset σ qs
 none-granted σ [] n = tt
-none-granted σ (q ∷ qs) n = ((λ i a. n .0 i), none-granted (step σ q) qs (n .1))
+none-granted σ (q ∷ qs) n = ((λ i. n .0 (i .0)), none-granted (step σ q) qs (n .1))
 
 pub run-long : (σ : Machine) (qs : List Call) → length (run σ qs .memory) ≡ length (σ .memory)
 run-long σ [] = refl
@@ -251,3 +274,10 @@ module _ (σ : Machine) (k0 k1 ν : ℕ) (b : List ℕ) (ok : Accepted σ (reset
   pub count-reset : step σ (resetCall k0 k1 ν b) .state .total ≡ freeInAll (step σ (resetCall k0 k1 ν b) .table)
   unfolding step
   count-reset = rw (fine .1) (sym (reset-count m t k0 k1 ν lo hi least most pos))
+
+-- whichever the reset
+pub well-first : (σ : Machine) (first : Call) → claim.Reset ofMachine σ first → Well (step σ first)
+well-first σ first g = by-reset σ first (λ c. Well (step σ c)) g (well-reset σ)
+
+pub held-first : (σ : Machine) (first : Call) → claim.Reset ofMachine σ first → (n : ℕ) → at (step σ first .table) n .tag ≡ 0
+held-first σ first g = by-reset σ first (λ c. (n : ℕ) → at (step σ c .table) n .tag ≡ 0) g (held-reset σ)

@@ -6,7 +6,7 @@ use Prim.Native.Nat.{ℕ, _^_, _≤_, _<_}
 use native.Mathlib.Omega.{arith}
 use lib.ListN.{length}
 use borrow.Author.Tests.{le-leb, leb-true, lt-ltb, ltb-true}
-use Rattle.machine.specs.Demand3.{Accepted, IsReset, resetCall, Unreset}
+use Rattle.machine.specs.MachineSystem.{Accepted, IsReset, resetCall, Unreset}
 use Rattle.machine.specs.Operations.{book, grant}
 use Rattle.machine.specs.Parts.{mostEntries, mostFree, size, spent, State}
 use Rattle.machine.specs.Requests.{Call, Request, reset}
@@ -17,6 +17,7 @@ use Rattle.machine.proofs.Decided.{accepted, AllTrue, away, nonces-pass
 use Rattle.machine.proofs.Grants.{granted-fits, unless}
 use Rattle.machine.proofs.Lent.{as-long}
 use Rattle.machine.proofs.WriteLaws.{key-kept, next-up, numbered-after}
+use Rattle.machine.proofs.Runs.{NotReset}
 
 -- the settings hold of a state beside a table of so many entries
 record InOrder (z : ℕ) (s : State) : Type 0 where
@@ -69,7 +70,7 @@ settled-reset σ k0 k1 ν b ok =
       total = omega (arith, leb-true 2 (size (σ .table)) (z .1 .1 .1 .0));
     }))
 
-pub settled-step : (σ : Machine) (q : Call) → (IsReset (q .request) → Accepted σ q → ⊥) → Settled σ → Settled (step σ q)
+pub settled-step : (σ : Machine) (q : Call) → NotReset σ q → Settled σ → Settled (step σ q)
 settled-step σ q nr h =
     let p = true-split (sizes m (σ .table)) (settings (σ .state) (σ .table)) h in
     settled σ q (p .0) (go (in-order (σ .state) (σ .table) (p .1)) (turned σ q))
@@ -78,7 +79,7 @@ settled-step σ q nr h =
     m = length (σ .memory)
 
     go : InOrder (size (σ .table)) (σ .state) → Turned σ q → InOrder (size (σ .table)) (decision σ q .state)
-    go o (taken a p e) = rw e (granted-order m (σ .state) (σ .table) (q .request) (q .buffer) (λ i. nr i a) o p)
+    go o (taken a p e) = rw e (granted-order m (σ .state) (σ .table) (q .request) (q .buffer) (λ i. nr (i, a)) o p)
     go o (away r e na) = rw e o
 
 pub settled-run : (σ : Machine) (qs : List Call) → Unreset σ qs → Settled σ → Settled (run σ qs)

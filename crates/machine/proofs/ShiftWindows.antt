@@ -2,11 +2,10 @@
 -- Assumes nothing.
 use mathlib.Core.Path.{_≡_, refl, sym, ap, _∙_}
 use mathlib.Core.Logic.{_⊎_, inl, inr}
-use mathlib.Core.Bool.{Bool, true, false, true≢false, not, _&&_}
+use mathlib.Core.Bool.{Bool, true, false, true≢false}
 use mathlib.Core.List.{List, [], _∷_, _++_, append-assoc}
 use Prim.Native.Nat.{ℕ, _*_, _/_, _%_, _<_, _≤_}
 use native.Mathlib.Omega.{arith}
-use lib.Dec.{eqb}
 use lib.ListN.{length}
 use borrow.Author.Tests.{eq-eqb, eqb-false, eqb-true, le-leb, leb-true, lt-ltb, ltb-true, not-true}
 use Rattle.bits.proofs.TestLaws.{both}
@@ -14,15 +13,15 @@ use Rattle.leases.specs.Lease.{allSound, firstLeases, isOpen, leasesOf, week}
 use Rattle.leases.specs.Windows.{Admits, Without}
 use Rattle.leases.proofs.Windows.{all-sound, opens}
 use Rattle.tokens.specs.Token.{named}
-use Rattle.machine.specs.Demand3.{Accepted}
+use Rattle.machine.specs.MachineSystem.{Accepted}
 use Rattle.machine.specs.Operations.{Grant, grant, numberOf}
 use Rattle.machine.specs.Parts.{State}
-use Rattle.machine.specs.Requests.{access, clone, create, derive, dump, executeOnly, load, lock, merge, noShift, pageIn, pageOut, release, Request, reset, revoke, Shift, unlock}
-use Rattle.machine.specs.ShiftWindows.{accesses, InShifts, AsBefore, before, bringing, dumps, Leaseless, loads, Shut, Unsound, Windows, Within}
-use Rattle.machine.specs.Steps.{answer, decide, Machine, pass, settle, step, stop, Verdict, verdict}
+use Rattle.machine.specs.Requests.{Access, accessing, clone, create, derive, dumping, executeOnly, loading, lock, look, merge, moving, noShift, pageIn, pageOut, release, Request, reset, revoke, Shift, unlock}
+use Rattle.machine.specs.ShiftWindows.{accesses, AsBefore, before, bringing, InShifts, Leaseless, Shut, Unsound, Windows, Within}
+use Rattle.machine.specs.Steps.{decide, finished, pass, settle, stop, Verdict, verdict}
 use Rattle.machine.specs.Stops.{atRequest, Check, checks, inOrder, leased, leasesSound, needAll, noncesLeft, Places, Refusal, refusalNumber, shiftFits, sizes, unleased, windowOpen}
 use Rattle.machine.proofs.Choices.{by-cond}
-use Rattle.machine.proofs.Decided.{accepted, AllTrue, andThen, granted-by, need-all, needed, Passed, passed-join, passed-split, passing, true-join, true-split, verdict-append}
+use Rattle.machine.proofs.Decided.{accepted, AllTrue, andThen, answered, need-all, needed, not-told, Passed, passed-split, passing, spared, told, true-split, verdict-append}
 
 -- ---- what is judged besides
 
@@ -82,26 +81,6 @@ need-append : (r : Refusal) (xs ys : List Bool) → needAll r (xs ++ ys) ≡ nee
 need-append r [] ys = refl
 need-append r (x ∷ xs) ys = rw (need-append r xs ys)
 
--- what a verdict tells, and a decision by it
-abbrev told : Verdict → ℕ
-told pass = 0
-told (stop r) = refusalNumber r
-
-settled-told : (v : Verdict) (s : State) (t : List ℕ) (g : Grant) → settle v s t g .reply .refusal ≡ told v
-settled-told pass s t g = refl
-settled-told (stop r) s t g = refl
-
--- no check of a list has this number
-abbrev spared : ℕ → List Check → Bool
-spared n [] = true
-spared n (c ∷ cs) = not (eqb (refusalNumber (c .refusal)) n) && spared n cs
-
-not-told : (n : ℕ) → 1 ≤ n → (cs : List Check) → spared n cs ≡ true → told (verdict cs) ≡ n → ⊥
-not-told n l [] h = λ k. omega arith
-not-told n l (c ∷ cs) h =
-    let ab = both _ _ h in
-    by-cond (λ (v : Verdict). told v ≡ n → ⊥) (c .holds) (λ e. not-told n l cs (ab .1)) (λ e k. eqb-false (refusalNumber (c .refusal)) n (not-true _ (ab .0)) k)
-
 -- if one check of a list alone has the number that is told, those before it passed, and it did not
 only-told : (n : ℕ) → 1 ≤ n → (xs : List Check) (c : Check) (ys : List Check) → spared n xs ≡ true → spared n ys ≡ true → told (verdict (xs ++ (c ∷ ys))) ≡ n → Passed xs × (c .holds ≡ false)
 only-told n l [] c ys g h = by-cond (λ (v : Verdict). told v ≡ n → Unit {0} × (c .holds ≡ false)) (c .holds) (λ e k. absurd (not-told n l ys h k)) (λ e k. (tt, e))
@@ -144,15 +123,28 @@ module _ (m : ℕ) (s : State) (t : List ℕ) (g : Grant) (φ : Shift) (k : ℕ)
   abbrev first : List Check
   first = needAll atRequest (sizes m t ++ (p .request ++ shiftFits φ)) ++ p .after
 
-  lease-told : spared 16 first ≡ true → spared 16 ((p .tokens ++ opened) ++ left) ≡ true → told (verdict (first ++ (leasesSound φ ∷ ((p .tokens ++ opened) ++ left)))) ≡ 16 → Unsound φ
-  lease-told g h k all = true≢false (sym (all-sound (leasesOf (φ .leases)) .all all) ∙ only-told 16 (omega arith) first (leasesSound φ) ((p .tokens ++ opened) ++ left) g h k .1)
+  abbrev asked : List Check
+  asked = needAll atRequest (sizes m t ++ (p .request ++ shiftFits φ))
+
+  -- its checks, with 16 in their middle, and with 15
+  by-lease : full ≡ first ++ (leasesSound φ ∷ ((p .tokens ++ opened) ++ left))
+  by-lease =
+      ap (λ (cs : List Check). asked ++ cs) (append-assoc (p .after ++ sound) (p .tokens ++ opened) left ∙ append-assoc (p .after) sound ((p .tokens ++ opened) ++ left))
+      ∙ sym (append-assoc asked (p .after) (leasesSound φ ∷ ((p .tokens ++ opened) ++ left)))
+
+  lease-told : spared 16 first ≡ true → spared 16 ((p .tokens ++ opened) ++ left) ≡ true → told (verdict full) ≡ 16 → Unsound φ
+  lease-told g h k all =
+      true≢false (sym (all-sound (leasesOf (φ .leases)) .all all) ∙ only-told 16 (omega arith) first (leasesSound φ) ((p .tokens ++ opened) ++ left) g h (ap (λ (cs : List Check). told (verdict cs)) (sym by-lease) ∙ k) .1)
 
   abbrev early : List Check
   early = first ++ (sound ++ p .tokens)
 
-  window-told : spared 15 early ≡ true → spared 15 left ≡ true → told (verdict (early ++ (windowOpen φ k ∷ left))) ≡ 15 → Shut φ k
+  by-window : full ≡ early ++ (windowOpen φ k ∷ left)
+  by-window = by-lease ∙ ap (λ (cs : List Check). first ++ (leasesSound φ ∷ cs)) (append-assoc (p .tokens) opened left) ∙ sym (append-assoc first (leasesSound φ ∷ p .tokens) (windowOpen φ k ∷ left))
+
+  window-told : spared 15 early ≡ true → spared 15 left ≡ true → told (verdict full) ≡ 15 → Shut φ k
   window-told g h e =
-      let r = only-told 15 (omega arith) early (windowOpen φ k) left g h e in
+      let r = only-told 15 (omega arith) early (windowOpen φ k) left g h (ap (λ (cs : List Check). told (verdict cs)) (sym by-window) ∙ e) in
       record {
         sound = all-sound (leasesOf (φ .leases)) .each (passed-split first (sound ++ p .tokens) (r .0) .1 .0);
         shut = λ o. true≢false (sym (open-by φ k o) ∙ r .1);
@@ -175,59 +167,48 @@ module _ (m : ℕ) (s : State) (t : List ℕ) (g : Grant) (φ : Shift) (k : ℕ)
 -- what was judged before does not look at a shift
 blind : (m : ℕ) (s : State) (t : List ℕ) {q r : Request} {k : ℕ} {φ ψ : Shift} → InShifts q r k φ ψ → (b : List ℕ) → before m s t q b ≡ before m s t r b
 blind m s t accesses b = refl
-blind m s t loads b = refl
-blind m s t dumps b = refl
 
 -- an access that its shift lets through is decided as before
 through : (m : ℕ) (s : State) (t : List ℕ) {q r : Request} {k : ℕ} {φ ψ : Shift} → InShifts q r k φ ψ → (b : List ℕ) → Held φ k → decide m s t q b ≡ before m s t q b
 unfolding decide
 through m s t (accesses {w = w} {k = k} {u = u} {φ = φ}) b h =
-    let g : Grant = grant m t (access w k u φ) b in
-    ap (λ (v : Verdict). settle v s t g) (same-verdict m s t g φ k (unleased m s t (access w k u φ) b) h)
-through m s t (loads {k = k} {u = u} {φ = φ}) b h =
-    let g : Grant = grant m t (load k u φ) b in
-    ap (λ (v : Verdict). settle v s t g) (same-verdict m s t g φ k (unleased m s t (load k u φ) b) h)
-through m s t (dumps {k = k} {u = u} {φ = φ}) b h =
-    let g : Grant = grant m t (dump k u φ) b in
-    ap (λ (v : Verdict). settle v s t g) (same-verdict m s t g φ k (unleased m s t (dump k u φ) b) h)
+    let g : Grant = grant m t (accessing w k u φ) b in
+    ap (λ (v : Verdict). settle v s t g) (same-verdict m s t g φ k (unleased m s t (accessing w k u φ) b) h)
 
 -- one that passes its checks was let through
 held-by : (m : ℕ) (s : State) (t : List ℕ) {q r : Request} {k : ℕ} {φ ψ : Shift} → InShifts q r k φ ψ → (b : List ℕ) → Passed (checks m s t q b) → Held φ k
-held-by m s t (accesses {w = w} {k = k} {u = u} {φ = φ}) b h = shift-held m s t (grant m t (access w k u φ) b) φ k (unleased m s t (access w k u φ) b) h
-held-by m s t (loads {k = k} {u = u} {φ = φ}) b h = shift-held m s t (grant m t (load k u φ) b) φ k (unleased m s t (load k u φ) b) h
-held-by m s t (dumps {k = k} {u = u} {φ = φ}) b h = shift-held m s t (grant m t (dump k u φ) b) φ k (unleased m s t (dump k u φ) b) h
+held-by m s t (accesses {w = w} {k = k} {u = u} {φ = φ}) b h = shift-held m s t (grant m t (accessing w k u φ) b) φ k (unleased m s t (accessing w k u φ) b) h
+
+-- none of the other checks tells 15 or 16, of whichever kind
+kind-spared : (m : ℕ) (s : State) (t : List ℕ) (w : Access) (k u : ℕ) (φ : Shift) (b : List ℕ)
+    → let g = grant m t (accessing w k u φ) b in
+    let p = unleased m s t (accessing w k u φ) b in
+    (spared 15 (early m s t g φ k p) ≡ true) × (spared 15 (left m s t g φ k p) ≡ true) × (spared 16 (first m s t g φ k p) ≡ true) × (spared 16 ((p .tokens ++ opened m s t g φ k p) ++ left m s t g φ k p) ≡ true)
+kind-spared m s t (moving w) k u φ b = (refl, refl, refl, refl)
+kind-spared m s t loading k u φ b = (refl, refl, refl, refl)
+kind-spared m s t dumping k u φ b = (refl, refl, refl, refl)
 
 -- and what it is told
 closed-by : (m : ℕ) (s : State) (t : List ℕ) {q r : Request} {k : ℕ} {φ ψ : Shift} → InShifts q r k φ ψ → (b : List ℕ) → told (verdict (checks m s t q b)) ≡ 15 → Shut φ k
-closed-by m s t (accesses {w = w} {k = k} {u = u} {φ = φ}) b = window-told m s t (grant m t (access w k u φ) b) φ k (unleased m s t (access w k u φ) b) refl refl
-closed-by m s t (loads {k = k} {u = u} {φ = φ}) b = window-told m s t (grant m t (load k u φ) b) φ k (unleased m s t (load k u φ) b) refl refl
-closed-by m s t (dumps {k = k} {u = u} {φ = φ}) b = window-told m s t (grant m t (dump k u φ) b) φ k (unleased m s t (dump k u φ) b) refl refl
+closed-by m s t (accesses {w = w} {k = k} {u = u} {φ = φ}) b = window-told m s t (grant m t (accessing w k u φ) b) φ k (unleased m s t (accessing w k u φ) b) (kind-spared m s t w k u φ b .0) (kind-spared m s t w k u φ b .1)
 
 unsound-by : (m : ℕ) (s : State) (t : List ℕ) {q r : Request} {k : ℕ} {φ ψ : Shift} → InShifts q r k φ ψ → (b : List ℕ) → told (verdict (checks m s t q b)) ≡ 16 → Unsound φ
-unsound-by m s t (accesses {w = w} {k = k} {u = u} {φ = φ}) b = lease-told m s t (grant m t (access w k u φ) b) φ k (unleased m s t (access w k u φ) b) refl refl
-unsound-by m s t (loads {k = k} {u = u} {φ = φ}) b = lease-told m s t (grant m t (load k u φ) b) φ k (unleased m s t (load k u φ) b) refl refl
-unsound-by m s t (dumps {k = k} {u = u} {φ = φ}) b = lease-told m s t (grant m t (dump k u φ) b) φ k (unleased m s t (dump k u φ) b) refl refl
-
--- an answer's number is its verdict's
-answered : (σ : Machine) (q : Request) (b : List ℕ) → answer σ (bringing q b) .reply .refusal ≡ told (verdict (checks (length (σ .memory)) (σ .state) (σ .table) q b))
-unfolding answer decide
-answered σ q b = settled-told (verdict (checks (length (σ .memory)) (σ .state) (σ .table) q b)) (σ .state) (σ .table) (grant (length (σ .memory)) (σ .table) q b)
+unsound-by m s t (accesses {w = w} {k = k} {u = u} {φ = φ}) b = lease-told m s t (grant m t (accessing w k u φ) b) φ k (unleased m s t (accessing w k u φ) b) (kind-spared m s t w k u φ b .2) (kind-spared m s t w k u φ b .3)
 
 turned-round : {q r : Request} {k : ℕ} {φ ψ : Shift} → InShifts q r k φ ψ → InShifts r q k ψ φ
 turned-round accesses = accesses
-turned-round loads = loads
-turned-round dumps = dumps
 
 pub windows : Windows
 windows = record {
   granted = λ σ {q} {r} {k} {φ} a b ok. held-within φ k (held-by (length (σ .memory)) (σ .state) (σ .table) a b (accepted σ (bringing q b) ok .0));
-  closed = λ σ {q} {r} {k} {φ} a b e. closed-by (length (σ .memory)) (σ .state) (σ .table) a b (sym (answered σ q b) ∙ e);
-  unsound = λ σ {q} {r} {k} {φ} a b e. unsound-by (length (σ .memory)) (σ .state) (σ .table) a b (sym (answered σ q b) ∙ e);
+  closed = λ σ {q} {r} {k} {φ} a b e. closed-by (length (σ .memory)) (σ .state) (σ .table) a b (answered σ (bringing q b) 15 (omega arith) (omega arith) e);
+  unsound = λ σ {q} {r} {k} {φ} a b e. unsound-by (length (σ .memory)) (σ .state) (σ .table) a b (answered σ (bringing q b) 16 (omega arith) (omega arith) e);
   within = λ σ {q} {r} {k} {φ} a b w.
       let m : ℕ = length (σ .memory) in
-      through m (σ .state) (σ .table) a b (within-held φ k w)
+      ap (finished (σ .state) (σ .table) (σ .memory) b)
+      (through m (σ .state) (σ .table) a b (within-held φ k w)
       ∙ blind m (σ .state) (σ .table) a b
-      ∙ sym (through m (σ .state) (σ .table) (turned-round a) b (held-none noShift k refl (omega arith)));
+      ∙ sym (through m (σ .state) (σ .table) (turned-round a) b (held-none noShift k refl (omega arith))));
 }
 
 -- ---- without leases
@@ -238,7 +219,7 @@ as-before = record { decided = λ m s t q b. by m s t b q; blind = λ m s t a b.
   where
     by : (m : ℕ) (s : State) (t b : List ℕ) (q : Request) → Leaseless q → decide m s t q b ≡ before m s t q b
     by m s t b (reset k0 k1 ν) h = refl
-    by m s t b (access w k u φ) h = let a = accesses {w = w} {k = k} {u = u} {φ = φ} {ψ = noShift} in let n = h _ _ _ a in through m s t a b (held-none φ k (n .0) (n .1))
+    by m s t b (accessing w k u φ) h = let a = accesses {w = w} {k = k} {u = u} {φ = φ} {ψ = noShift} in let n = h _ _ _ a in through m s t a b (held-none φ k (n .0) (n .1))
     by m s t b (create k u l x p c) h = refl
     by m s t b (merge j k u c) h = refl
     by m s t b (derive k o l p c) h = refl
@@ -250,5 +231,4 @@ as-before = record { decided = λ m s t q b. by m s t b q; blind = λ m s t a b.
     by m s t b (revoke k c) h = refl
     by m s t b (pageOut k u f c) h = refl
     by m s t b (pageIn j k u c) h = refl
-    by m s t b (load k u φ) h = let a = loads {k = k} {u = u} {φ = φ} {ψ = noShift} in let n = h _ _ _ a in through m s t a b (held-none φ k (n .0) (n .1))
-    by m s t b (dump k u φ) h = let a = dumps {k = k} {u = u} {φ = φ} {ψ = noShift} in let n = h _ _ _ a in through m s t a b (held-none φ k (n .0) (n .1))
+    by m s t b (look v) h = refl

@@ -3,11 +3,11 @@
 use mathlib.Core.Path.{_≡_, refl, ap, _∙_}
 use mathlib.Core.Logic.{_≢_}
 use mathlib.Core.Bool.{Bool, true, false, false≢true, not, _&&_, _||_, cond}
-use mathlib.Core.List.{List, [], _∷_, _++_}
+use mathlib.Core.List.{List, [], _∷_}
 use Prim.Native.Nat.{ℕ, zero, suc, _+_, _-_, _≤_, _<_}
 use native.Mathlib.Omega.{arith}
 use native.Mathlib.Decide.{ℕ-discrete}
-use lib.Dec.{eqb, leb}
+use lib.Dec.{eqb}
 use lib.ListN.{length}
 use borrow.Author.Tests.{eq-eqb, le-leb, leb-true, lt-ltb, ltb-true, ne-eqb}
 use Rattle.bits.proofs.TestLaws.{both}
@@ -16,23 +16,23 @@ use Rattle.layout.specs.Form.{illFormed}
 use Rattle.layout.specs.declared.entry.Entry.{Entry}
 use Rattle.tokens.specs.Permissions.{within}
 use Rattle.tokens.specs.Token.{named}
-use Rattle.machine.specs.Demand3.{Accepted}
 use Rattle.machine.specs.FromReset.{Sound}
 use Rattle.machine.specs.Given.{nameIn}
 use Rattle.machine.specs.Issuing.{issue, newNumber, otherNonce}
-use Rattle.machine.specs.Line.{dead, ill, isPaged, Line, linked, lineOf, lockedFrom, owner, ownerOf, pagedOut, parentNumber, walk}
-use Rattle.machine.specs.Operations.{childOf, Grant, grant, namedEntry, numberOf}
+use Rattle.machine.specs.Line.{dead, ill, isPaged, Line, lineOf, linked, lockedFrom, owner, ownerOf, pagedOut, parentNumber, walk}
+use Rattle.machine.specs.MachineSystem.{Accepted}
+use Rattle.machine.specs.Operations.{childOf, effectBy, grant, namedEntry, numberOf}
 use Rattle.machine.specs.Parts.{at, mostEntries, mostFree, mostMemory, moved, put, size, spent, State}
-use Rattle.machine.specs.Requests.{access, Call, derive, rightOf, Shift, Way}
+use Rattle.machine.specs.Requests.{Access, accessing, Call, derive, dumping, loading, moving, rightFor, Shift}
 use Rattle.machine.specs.Searches.{FirstFree}
 use Rattle.machine.specs.ShiftWindows.{Within}
-use Rattle.machine.specs.Steps.{answer, decide, Machine, pass, settle, step, stop, Verdict, verdict}
-use Rattle.machine.specs.Stops.{atRequest, Check, checks, needAll, noncesLeft, places, refusalNumber, settings, shiftFits, sizes, taskFits, transferFits}
+use Rattle.machine.specs.Steps.{answer, decide, finished, Machine, pass, settle, step, stop, Verdict, verdict}
+use Rattle.machine.specs.Stops.{asks, Check, checks, lastly, noncesLeft, refusalNumber}
 use Rattle.machine.specs.WholeDerive.{accessCall, AsExecuteOnly, Bounds, deriveCall, lengthOf, Parts, PassedOn, Whole}
 use Rattle.machine.specs.Writes.{Name, nameOf, oneLess, tokenFor}
 use Rattle.machine.proofs.Basics.{link, neqb-true, owner-direct, parent, present, Present, range}
 use Rattle.machine.proofs.Choices.{by-both, by-cond}
-use Rattle.machine.proofs.Decided.{accepted, AllTrue, but-nonces, judged, need-all, Passed, passed, passed-join, passed-split, passing, sizes-passed, true-join}
+use Rattle.machine.proofs.Decided.{accepted, accepted-last, access-passed, AccessPassed, but-nonces, judged, Passed, passed, passed-access, passed-split, passing}
 use Rattle.machine.proofs.Fuel.{line-enough, Live, number-first, other-least, walk-owns}
 use Rattle.machine.proofs.Grants.{either}
 use Rattle.machine.proofs.ShiftWindows.{Held, within-held}
@@ -69,7 +69,7 @@ pub bounds : Bounds
 unfolding Bounds answer decide Spared
 bounds σ k o l p c b = (
   λ h.
-      told (verdict cs) (grant m (σ .table) (derive k o l p c) b) (spared 8 cs (rw (le-leb (l + o) (namedEntry (σ .table) k .length) h))),
+      told (verdict cs) (spared 8 cs (rw (le-leb (l + o) (namedEntry (σ .table) k .length) h))),
   λ h a. let all = accepted σ (deriveCall k o l p c b) a .0 in omega (arith, leb-true (l + o) (namedEntry (σ .table) k .length) (search)),
 )
   where
@@ -79,9 +79,9 @@ bounds σ k o l p c b = (
     cs : List Check
     cs = checks m (σ .state) (σ .table) (derive k o l p c) b
 
-    told : (v : Verdict) (g : Grant) → Spared 8 v → settle v (σ .state) (σ .table) g .reply .refusal ≢ 8
-    told pass g h = λ e. omega arith
-    told (stop r) g h = h
+    told : (v : Verdict) → Spared 8 v → finished (σ .state) (σ .table) (σ .memory) b (settle v (σ .state) (σ .table) (grant m (σ .table) (derive k o l p c) b)) .reply .refusal ≢ 8
+    told pass h = λ e. omega arith
+    told (stop r) h = h
 
 -- ---- parts and the whole
 
@@ -103,7 +103,7 @@ module _ (σ : Machine) (k p c : ℕ) (b : List ℕ) where
       let same : verdict (asked-of o′ l′) ≡ verdict (asked-of o l) =
       rw (ne-eqb l 0 (neqb-true l 0 (search)), ne-eqb l′ 0 some, le-leb (l + o) long (leb-true (l + o) long (search)), le-leb (l′ + o′) long ends) in
       let passes : Passed (asked-of o′ l′) = passed (asked-of o′ l′) (same ∙ passing (asked-of o l) (passed-split (asked-of o l) (noncesLeft (σ .state) (σ .table) (grant m₀ (σ .table) (derive k o l p c) b) ∷ []) a .0)) in
-      either (λ e. e) (λ e. absurd (other e)) (but-nonces σ (deriveCall k o′ l′ p c b) passes)
+      either (λ e. e) (λ e. absurd (other e)) (but-nonces σ (deriveCall k o′ l′ p c b) passes tt)
 
 pub parts : Parts
 unfolding Parts
@@ -112,6 +112,19 @@ parts σ k o l p c b = parts-granted σ k p c b o l
 pub as-execute-only : AsExecuteOnly
 unfolding AsExecuteOnly decide
 as-execute-only σ k c b some = rw (ne-eqb (lengthOf σ k) 0 some, le-leb (lengthOf σ k + 0) (lengthOf σ k) (omega arith))
+
+-- ---- accesses of one segment
+
+-- what is judged by its kind goes by the segment's length, and what is done by its base too
+asks-same : (w : Access) (o : ℕ) (b : List ℕ) (d e : Entry) → d .length ≡ e .length → asks w o b d ≡ asks w o b e
+asks-same (moving w) o b d e l = rw l
+asks-same loading o b d e l = rw l
+asks-same dumping o b d e l = refl
+
+effect-same : (w : Access) (o : ℕ) (b : List ℕ) (d e : Entry) → d .base ≡ e .base → d .length ≡ e .length → effectBy w d o b ≡ effectBy w e o b
+effect-same (moving w) o b d e h l = rw h
+effect-same loading o b d e h l = rw h
+effect-same dumping o b d e h l = rw (h, l)
 
 -- ---- what a derive of the whole leaves
 
@@ -261,13 +274,13 @@ module _ (σ : Machine) (fine : Sound σ) (k p c : ℕ) (b : List ℕ) (ok : Acc
   unfolding step
   left = rw (accepted σ whole ok .1)
 
-  module _ (w : Way) (allowed : within (rightOf w) p ≡ true) (x y u : ℕ) (φ ψ : Shift) (d : List ℕ) (nx : nameIn x ≡ nameIn token) (ny : nameIn y ≡ nameIn k) (ox : named x .offset ≡ named y .offset)
+  module _ (w : Access) (allowed : within (rightFor w) p ≡ true) (x y u : ℕ) (φ ψ : Shift) (d : List ℕ) (nx : nameIn x ≡ nameIn token) (ny : nameIn y ≡ nameIn k) (ox : named x .offset ≡ named y .offset)
       (opened : Accepted σ (accessCall w y u ψ d)) (admitted : Within φ x) where
     shift : Held φ x
     shift = within-held φ x admitted
 
-    through : Passed (checks m s t (access w y u ψ) d)
-    through = accepted σ (accessCall w y u ψ d) opened .0
+    through : AccessPassed m s t w y u ψ d
+    through = access-passed m s t w y u ψ d (accepted σ (accessCall w y u ψ d) opened .0)
 
     at-x : numberOf x ≡ new
     at-x = ap (λ (z : Name). z .number) (nx ∙ token-names)
@@ -278,42 +291,51 @@ module _ (σ : Machine) (fine : Sound σ) (k p c : ℕ) (b : List ℕ) (ok : Acc
     tag-x : named x .tag ≡ child .tag
     tag-x = ap (λ (z : Name). z .tag) (nx ∙ token-names)
 
-    -- place 1
-    asked : AllTrue (sizes m t′ ++ (settings s′ t′ ++ (taskFits u ∷ (transferFits d ++ shiftFits φ))))
-    asked =
-        let h : Passed (checks m s t (access w y u ψ) d) = through in
+    -- the segment is the same
+    named-x : namedEntry t′ x ≡ child
+    named-x = rw at-x there
+
+    named-y : namedEntry t y ≡ e
+    named-y = rw at-y
+
+    judged-same : asks w (named x .offset) d (namedEntry t′ x) ≡ asks w (named y .offset) d (namedEntry t y)
+    judged-same = rw (ox, named-x, named-y) (asks-same w (named y .offset) d child e refl)
+
+    moved-same : effectBy w (namedEntry t′ x) (named x .offset) d ≡ effectBy w (namedEntry t y) (named y .offset) d
+    moved-same = rw (ox, named-x, named-y) (effect-same w (named y .offset) d child e (omega arith) refl)
+
+    passes : Passed (checks m s′ t′ (accessing w x u φ) d)
+    passes =
+        let h = through in
         let long : length t′ ≡ length t = length-put _ _ _ ∙ length-put _ _ _ in
         let wide : size t′ ≡ size t = size-put _ _ _ ∙ size-put _ _ _ in
-        true-join (sizes m t′) (settings s′ t′ ++ (taskFits u ∷ (transferFits d ++ shiftFits φ))) (rw (long, wide) (sizes-passed m s t (access w y u ψ) d h))
-        (true-join (settings s′ t′) (taskFits u ∷ (transferFits d ++ shiftFits φ))
-        (rw wide (lt-ltb new (size t) (first .inside)), (le-leb 1 (ν + 1) (omega arith), (le-leb (ν + 1) spent left-nonce, (rw wide (le-leb (oneLess (s .total)) (mostFree t) (omega (arith, leb-true (s .total) (mostFree t) (search)))), tt))))
-        (search, (search, (search, shift .fits))))
-
-    -- the others
-    abbrev others : List Check
-    others = (places m s′ t′ (access w x u φ) d .after ++ places m s′ t′ (access w x u φ) d .tokens) ++ (places m s′ t′ (access w x u φ) d .rest ++ (noncesLeft s′ t′ (grant m t′ (access w x u φ) d) ∷ []))
-
-    found : Passed others
-    found =
-        let h : Passed (checks m s t (access w y u ψ) d) = through in
         let live : Live (lineOf m t n) = rw (← at-y) (search, search) in
         let owned : at t (ownerOf (lineOf m t n)) .kind ≢ 0 = λ z. omega (arith, owner-direct (walk-owns (suc (e .nonce)) m t n stands live)) in
         let line : lineOf m t′ (numberOf x) ≡ lineOf m t n = rw at-x (same-line live) in
         let open′ : not (lockedFrom t u (lineOf m t n)) ≡ true = rw (← at-y) (search) in
-        let ends : leb (named y .offset + length d) (e .length) ≡ true = rw (← at-y) (search) in (shift .sound, (rw (at-x, size-put, size-put) (lt-ltb new (size t) (first .inside)), (rw (at-x, there), (rw (at-x, there, tag-x) (eq-eqb (child .tag) (child .tag) refl), (rw (at-x, there), (rw line (live .0), (rw line (live .1), (rw (line, same-lock (lineOf m t n) u owned live) open′, (shift .opened, (rw (at-x, there) allowed, (rw (at-x, there, ox) ends, (le-leb (ν + 1) spent left-nonce, tt))))))))))))
-
-    passes : Passed (checks m s′ t′ (access w x u φ) d)
-    passes =
-        let bs : List Bool = sizes m t′ ++ (settings s′ t′ ++ (taskFits u ∷ (transferFits d ++ shiftFits φ))) in
-        passed-join (needAll atRequest bs) others (need-all atRequest bs asked) found
+        passed-access m s′ t′ w x u φ d
+        (record {
+          sizes = rw (long, wide) (h .sizes);
+          settings = (rw wide (lt-ltb new (size t) (first .inside)), (le-leb 1 (ν + 1) (omega arith), (le-leb (ν + 1) spent left-nonce, (rw wide (le-leb (oneLess (s .total)) (mostFree t) (omega (arith, leb-true (s .total) (mostFree t) (search)))), tt))));
+          task = h .task;
+          asked = rw judged-same (h .asked);
+          shift = shift .fits;
+          after = rw judged-same (h .after);
+          sound = shift .sound;
+          tokens = (rw (at-x, size-put, size-put) (lt-ltb new (size t) (first .inside)), (rw (at-x, there), (rw (at-x, there, tag-x) (eq-eqb (child .tag) (child .tag) refl), (rw (at-x, there), (rw line (live .0), (rw line (live .1), (rw (line, same-lock (lineOf m t n) u owned live) open′, tt)))))));
+          opened = shift .opened;
+          right = rw named-x allowed;
+          bounds = rw judged-same (h .bounds);
+          nonces = le-leb (ν + 1) spent left-nonce;
+        })
 
     same-opens : (answer σ′ (accessCall w x u φ d) ≡ answer σ (accessCall w y u ψ d)) × (step σ′ (accessCall w x u φ d) .memory ≡ step σ (accessCall w y u ψ d) .memory)
     unfolding answer step decide
     same-opens =
-        let front : e .base + 0 ≡ e .base = omega arith in
-        let to = passing (checks m s′ t′ (access w x u φ) d) passes in
-        let from = passing (checks m s t (access w y u ψ) d) through in
-        (rw (to, from, ox, at-x, at-y, there, front), rw (to, from, ox, at-x, at-y, there, front))
+        let to = passing (checks m s′ t′ (accessing w x u φ) d) passes in
+        let from = passing (checks m s t (accessing w y u ψ) d) (accepted σ (accessCall w y u ψ d) opened .0) in
+        let last = passing (lastly (effectBy w (namedEntry t y) (named y .offset) d .fill) (σ .memory) d) (accepted-last σ (accessCall w y u ψ d) opened .0) in
+        (rw (to, from, moved-same, last), rw (to, from, moved-same, last))
 
   passed-on : PassedOn σ k p whole
   unfolding answer

@@ -6,8 +6,8 @@ use mathlib.Core.List.{List, _∷_}
 use Prim.Native.Nat.{ℕ, _≤_}
 use lib.Dec.{eqb}
 use Rattle.layout.specs.declared.entry.Entry.{Entry}
-use Rattle.machine.specs.Demand3.{Accepted, resetCall}
 use Rattle.machine.specs.FromReset.{added}
+use Rattle.machine.specs.MachineSystem.{Accepted, resetCall}
 use Rattle.machine.specs.Parts.{mostFree, totalled}
 use Rattle.machine.specs.Requests.{Call}
 use Rattle.machine.specs.Steps.{answers, Machine, run}

@@ -11,10 +11,11 @@ use Rattle.layout.specs.Entry.{Storable}
 use Rattle.layout.specs.Form.{illFormed}
 use Rattle.layout.specs.declared.entry.Entry.{Entry}
 use Rattle.tokens.specs.Permissions.{within}
-use Rattle.machine.specs.Demand3.{Accepted, In, Linked, resetCall, Unreset}
 use Rattle.machine.specs.Line.{parentNumber}
+use Rattle.machine.specs.MachineSystem.{Accepted, resetCall, Unreset}
 use Rattle.machine.specs.Parts.{at, size}
 use Rattle.machine.specs.Requests.{Call}
+use Rattle.machine.specs.Segments.{In, Linked}
 use Rattle.machine.specs.Steps.{Machine, pass, run, step, verdict}
 use Rattle.machine.specs.Stops.{atRequest, needAll, settings, sizes}
 

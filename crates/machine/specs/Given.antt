@@ -6,7 +6,7 @@ use mathlib.Core.List.{List, [], _∷_}
 use Prim.Native.Nat.{ℕ, _^_, _≤_, _<_}
 use lib.ListN.{length}
 use Rattle.tokens.specs.Token.{named}
-use Rattle.machine.specs.Demand3.{Accepted, IsReset}
+use Rattle.machine.specs.MachineSystem.{Accepted, IsReset}
 use Rattle.machine.specs.Operations.{Decision, numberOf}
 use Rattle.machine.specs.Requests.{Call, Request}
 use Rattle.machine.specs.Steps.{decision, Machine}

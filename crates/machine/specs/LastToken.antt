@@ -1,17 +1,23 @@
--- The last token must not return (02, paper 5): what the paper claims, on its own. What it changes in demand 3 stands there (`Demand3.Returns`).
+-- The last token must not return (02, paper 5): what the paper claims, on its own. What it changes in demand 3 stands there (`Ledger.Returned`).
 -- Assumes nothing.
 use mathlib.Core.Path.{_≡_}
 use mathlib.Core.Logic.{_≢_}
 use mathlib.Core.Bool.{cond}
-use mathlib.Core.List.{List, [], _∷_}
+use mathlib.Core.List.{List, [], _∷_, _++_}
 use Prim.Native.Nat.{ℕ}
 use lib.Dec.{eqb}
 use Rattle.layout.specs.Entry.{freed}
-use Rattle.machine.specs.Demand3.{Accepted, issuedIn, resetCall, Unreset}
+use Rattle.machine.specs.MachineSystem.{Accepted, resetCall, Unreset}
 use Rattle.machine.specs.Parts.{at}
 use Rattle.machine.specs.Requests.{Call}
-use Rattle.machine.specs.Steps.{Machine, run, step}
+use Rattle.machine.specs.Steps.{decision, Machine, run, step}
 use Rattle.machine.specs.Writes.{Name}
+
+-- "A token is issued, and so given, when reset writes the root (number 0, tag 0) and when a granted answer carries it for an entry issued in that request" (01): the
+-- tokens that a list of requests issues
+abbrev pub issuedIn : Machine → List Call → List Name
+issuedIn σ [] = []
+issuedIn σ (q ∷ qs) = decision σ q .issued ++ issuedIn (step σ q) qs
 
 -- the tag that each number last held: `held` before, and then the tokens, issued one after the other
 abbrev pub heldWith : (held : ℕ → ℕ) → Name → ℕ → ℕ

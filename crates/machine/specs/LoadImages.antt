@@ -8,13 +8,12 @@ use Rattle.bits.specs.Bytes.{AllBytes}
 use Rattle.hex.specs.Text.{apply, farthest, loads, Piece, said}
 use Rattle.hex.specs.Written.{written, writtenLength}
 use Rattle.tokens.specs.Token.{named}
-use Rattle.machine.specs.Demand3.{Accepted, Closed, In}
-use Rattle.machine.specs.Given.{nameIn}
+use Rattle.machine.specs.MachineSystem.{Accepted}
 use Rattle.machine.specs.Operations.{namedEntry}
-use Rattle.machine.specs.Requests.{Call, dump, load, reading, Shift, writing}
+use Rattle.machine.specs.Requests.{Call, dump, load, moving, reading, Shift, writing}
+use Rattle.machine.specs.Segments.{In}
 use Rattle.machine.specs.Steps.{Answer, answer, Machine, step}
 use Rattle.machine.specs.WholeDerive.{accessCall, lengthOf}
-use Rattle.machine.specs.Writes.{Name}
 
 -- a load of a text, and a dump into a buffer, through the token k, by the task u, in a shift
 abbrev pub loadCall : (token task : ℕ) → Shift → (text : List ℕ) → Call
@@ -62,14 +61,14 @@ Loads = (σ : Machine) (k u : ℕ) (φ : Shift) (b : List ℕ) → Accepted σ (
 unfoldable pub Restores : Type 0
 Restores =
     (σ : Machine) (k u : ℕ) (φ : Shift) (b : List ℕ) → AllBytes (σ .memory) → Accepted σ (dumpCall k u φ b)
-    → (τ : Machine) (j v : ℕ) (ψ : Shift) → named j .offset ≡ 0 → lengthOf τ j ≡ lengthOf σ k → Accepted τ (accessCall writing j v ψ (0 ∷ []))
+    → (τ : Machine) (j v : ℕ) (ψ : Shift) → named j .offset ≡ 0 → lengthOf τ j ≡ lengthOf σ k → Accepted τ (accessCall (moving writing) j v ψ (0 ∷ []))
     → let q : Call = loadCall j v ψ (textIn (answer σ (dumpCall k u φ b))) in
     Accepted τ q × (segmentOf (step τ q) j ≡ segmentOf σ k)
 
 -- "Loads and dumps [..] use the access checks without the transfer limit": a load is granted just where the token, without offset, opens a write of one byte, the
 -- text has "at most 65,536 bytes" and is read, and its data lie in the segment;
 pub record MayLoad (σ : Machine) (k u : ℕ) (φ : Shift) (b : List ℕ) : Type 0 where
-  pub access : Accepted σ (accessCall writing k u φ (0 ∷ []))
+  pub access : Accepted σ (accessCall (moving writing) k u φ (0 ∷ []))
   pub offset : named k .offset ≡ 0
   pub short : length b ≤ 65536
   pub pieces : List Piece
@@ -78,7 +77,7 @@ pub record MayLoad (σ : Machine) (k u : ℕ) (φ : Shift) (b : List ℕ) : Type
 
 -- and a dump just where it opens a read of one byte, and the text has at most 65,536 bytes and its room in the buffer.
 pub record MayDump (σ : Machine) (k u : ℕ) (φ : Shift) (b : List ℕ) : Type 0 where
-  pub access : Accepted σ (accessCall reading k u φ (0 ∷ []))
+  pub access : Accepted σ (accessCall (moving reading) k u φ (0 ∷ []))
   pub offset : named k .offset ≡ 0
   pub short : writtenLength (lengthOf σ k) ≤ 65536
   pub room : writtenLength (lengthOf σ k) ≤ length b
@@ -88,10 +87,3 @@ pub record AsAccesses : Type 0 where
   pub load : (σ : Machine) (k u : ℕ) (φ : Shift) (b : List ℕ) → MayLoad σ k u φ b → Accepted σ (loadCall k u φ b)
   pub dumps : (σ : Machine) (k u : ℕ) (φ : Shift) (b : List ℕ) → Accepted σ (dumpCall k u φ b) → MayDump σ k u φ b
   pub dump : (σ : Machine) (k u : ℕ) (φ : Shift) (b : List ℕ) → MayDump σ k u φ b → Accepted σ (dumpCall k u φ b)
-
--- "Loads and dumps are requests like others for the lock's secrecy": so a token that opens no access, as demand 3 has it after a revoke, opens no load and no dump, in any encoding, with any
--- buffer, at any minute and with any leases.
-unfoldable pub Shut : Type 0
-Shut =
-    (σ : Machine) (k : Name) → Closed σ k → (token task : ℕ) (φ : Shift) (b : List ℕ) → nameIn token ≡ k
-    → (Accepted σ (loadCall token task φ b) → ⊥) × (Accepted σ (dumpCall token task φ b) → ⊥)

@@ -3,18 +3,22 @@
 use mathlib.Core.Path.{_≡_}
 use mathlib.Core.Logic.{_≢_, _⊎_}
 use mathlib.Core.Bool.{false, true}
-use mathlib.Core.List.{List, [], _∷_, _++_, List·Memᴰ}
+use mathlib.Core.List.{List, [], _∷_}
 use Prim.Native.Nat.{ℕ, _^_, _≤_, _<_}
 use lib.ListN.{drop, getD, length, replicate, take}
 use Rattle.tokens.specs.Token.{named}
 use Rattle.layout.specs.declared.entry.Entry.{Entry}
-use Rattle.machine.specs.Demand3.{Accepted, Closed, In, LockedFor, Owns, resetCall, Returns, Under, Unreset}
+use Rattle.machine.specs.Demand3.{Closed}
 use Rattle.machine.specs.FromReset.{Sound}
 use Rattle.machine.specs.Given.{nameIn}
+use Rattle.machine.specs.Ledger.{Event, Gave, Returned}
+use Rattle.machine.specs.MachineSystem.{Accepted, ofMachine, resetCall, Unreset}
 use Rattle.machine.specs.Operations.{namedEntry, numberOf, tokenOf}
 use Rattle.machine.specs.Parts.{at}
 use Rattle.machine.specs.Requests.{Call, pageIn, pageOut}
-use Rattle.machine.specs.Steps.{Answer, answer, decision, Machine, run, step}
+use Rattle.machine.specs.Segments.{In, LockedFor, Owns, Under}
+use Rattle.machine.specs.Steps.{Answer, answer, Machine, run, step}
+use Rattle.machine.specs.System.{ledger}
 use Rattle.machine.specs.Writes.{Name, nameOf}
 
 -- paging out through the token k, by the task u, under the page-file number f; and paging in through the token j, with the donor k
@@ -132,7 +136,7 @@ Unlocked =
 unfoldable pub NoneLocked : Type 0
 NoneLocked =
     (σ : Machine) → Sound σ → (k u f c : ℕ) (b : List ℕ) (j v d : ℕ) → Accepted σ (outCall k u f c b) ⊎ Accepted σ (inCall j k v d b)
-    → (s t x : ℕ) → LockedFor σ s t → In (at (σ .table) s) x → In (namedEntry (σ .table) k) x → ⊥
+    → (s t x : ℕ) → LockedFor (σ .table) s t → In (at (σ .table) s) x → In (namedEntry (σ .table) k) x → ⊥
 
 -- What the token of a paged entry is "for" (01): no segment, since the entry has no owner.
 unfoldable pub ForNone : Type 0
@@ -149,7 +153,7 @@ pub data Of (t : List ℕ) (n : ℕ) (e : Entry) (κ : Name) : Type 0 where
   under : Under t e κ → Of t n e κ
 
 -- "issued anew", "freed": from reset on, once entry n has gone out or come in, no token given before for n, for the segment that went out or came in, or derived
--- under that, opens an access, whatever requests but a granted reset follow, unless it returns by paper 5's rule. The token κ was given by the request q; zs is what
+-- under that, opens an access, whatever requests but a granted reset follow, unless it returns by paper 5's rule. The token κ was given by the event v; zs is what
 -- follows.
 unfoldable pub Closes : Type 0
 Closes =
@@ -157,8 +161,7 @@ Closes =
     → (after : List Call) → Unreset (step σ (resetCall k0 k1 ν b)) after → let h : List Call = resetCall k0 k1 ν b ∷ after in
     let σ₁ : Machine = run σ h in
     (r : Call) (n m : ℕ) → Pages r n m → Accepted σ₁ r → (zs : List Call) → Unreset (step σ₁ r) zs
-    → (x : List Call) (q : Call) (y : List Call) → x ++ (q ∷ y) ≡ h
-    → (κ : Name) → List·Memᴰ κ (decision (run σ x) q .issued)
-    → Of (step (run σ x) q .table) n (at (σ₁ .table) m) κ
-    → (Returns (step (run σ x) q) (y ++ (r ∷ zs)) κ → ⊥)
-    → Closed (run (step σ₁ r) zs) κ
+    → (κ : Name) (v : Event) (since : List Event) → Gave κ v since (ledger ofMachine [] σ h)
+    → Of (v .table) n (at (σ₁ .table) m) κ
+    → (Returned κ v (ledger ofMachine since σ₁ (r ∷ zs)) → ⊥)
+    → Closed ofMachine (run (step σ₁ r) zs) κ

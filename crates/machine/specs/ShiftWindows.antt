@@ -9,10 +9,10 @@ use Rattle.leases.specs.Lease.{leasesOf, week}
 use Rattle.leases.specs.Windows.{Admits, Sound, Without}
 use Rattle.leases.specs.declared.lease.Lease.{Lease}
 use Rattle.tokens.specs.Token.{named}
-use Rattle.machine.specs.Demand3.{Accepted}
+use Rattle.machine.specs.MachineSystem.{Accepted}
 use Rattle.machine.specs.Operations.{Decision, grant, numberOf}
 use Rattle.machine.specs.Parts.{State}
-use Rattle.machine.specs.Requests.{access, Call, dump, load, noShift, Request, Shift, Way}
+use Rattle.machine.specs.Requests.{Access, accessing, Call, noShift, Request, Shift}
 use Rattle.machine.specs.Steps.{answer, decide, decision, Machine, settle, verdict}
 use Rattle.machine.specs.Stops.{inOrder, unleased}
 
@@ -20,9 +20,7 @@ use Rattle.machine.specs.Stops.{inOrder, unleased}
 
 -- q is an access, by the token k, in the shift φ, and r is the same request in another one; "Loads and dumps count as accesses."
 pub data InShifts : Request → Request → (token : ℕ) → (φ ψ : Shift) → Type 0 where
-  accesses : {w : Way} {k u : ℕ} {φ ψ : Shift} → InShifts (access w k u φ) (access w k u ψ) k φ ψ
-  loads : {k u : ℕ} {φ ψ : Shift} → InShifts (load k u φ) (load k u ψ) k φ ψ
-  dumps : {k u : ℕ} {φ ψ : Shift} → InShifts (dump k u φ) (dump k u ψ) k φ ψ
+  accesses : {w : Access} {k u : ℕ} {φ ψ : Shift} → InShifts (accessing w k u φ) (accessing w k u ψ) k φ ψ
 
 abbrev pub bringing : Request → (buffer : List ℕ) → Call
 bringing q b = record { request = q; buffer = b }
@@ -59,7 +57,7 @@ pub record Windows : Type 0 where
 abbrev pub Leaseless : Request → Type 0
 Leaseless q = (r : Request) (k : ℕ) (φ : Shift) → InShifts q r k φ noShift → (φ .leases ≡ []) × (φ .minute < week)
 
--- the decision before this paper: the checks of 01 and of papers 1 to 3 alone
+-- the decision without this paper: by all checks but those that it puts to an access
 abbrev pub before : ℕ → State → List ℕ → Request → List ℕ → Decision
 before m s t q b = settle (verdict (inOrder m s t (grant m t q b) (unleased m s t q b))) s t (grant m t q b)
 

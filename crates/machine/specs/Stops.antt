@@ -5,18 +5,18 @@ use mathlib.Core.Bool.{Bool, not}
 use mathlib.Core.List.{List, [], _∷_, _++_}
 use Prim.Native.Nat.{ℕ, _+_, _%_, _^_}
 use lib.Dec.{eqb, leb, ltb}
-use lib.ListN.{length}
+use lib.ListN.{drop, length, take}
 use Rattle.hex.specs.Text.{farthest}
 use Rattle.layout.specs.declared.entry.Entry.{Entry}
 use Rattle.leases.specs.Lease.{allSound, few, isOpen, leasesOf, week, whole}
-use Rattle.tokens.specs.Permissions.{R, W, within, X}
+use Rattle.tokens.specs.Permissions.{within, X}
 use Rattle.tokens.specs.Token.{named}
-use Rattle.machine.specs.Images.{mostText, piecesOf, spares, textFits}
+use Rattle.machine.specs.Images.{piecesOf, spares, textShort}
 use Rattle.machine.specs.Issuing.{newNumber}
 use Rattle.machine.specs.Line.{ancestor, Bad, badOf, isDead, isIll, isLocked, isPaged, itself, lineOf, lockedFrom, ownerOf}
-use Rattle.machine.specs.Operations.{book, Grant, grant, namedEntry, numberOf}
+use Rattle.machine.specs.Operations.{book, entire, Fill, front, Grant, grant, namedEntry, numberOf, unfilled}
 use Rattle.machine.specs.Parts.{at, leastEntries, mostEntries, mostFree, mostMemory, size, spent, State}
-use Rattle.machine.specs.Requests.{access, clone, create, derive, dump, executeOnly, load, lock, merge, pageIn, pageOut, release, Request, reset, revoke, rightOf, Shift, unlock}
+use Rattle.machine.specs.Requests.{Access, accessing, clone, create, derive, dumping, executeOnly, loading, lock, Look, look, merge, moving, pageIn, pageOut, release, Request, reset, revoke, rightFor, Shift, unlock}
 
 -- ---- the refusals
 
@@ -148,10 +148,6 @@ transferFits b = leb 1 (length b) ∷ leb (length b) 4096 ∷ []
 abbrev pub firstNonceFits : ℕ → List Bool
 firstNonceFits ν = leb 1 ν ∷ ltb ν spent ∷ []
 
--- 02, paper 2: "at most 65,536 bytes of text, else 1"
-abbrev pub textShort : List ℕ → Bool
-textShort b = leb (length b) mostText
-
 -- ---- 12 and 13, "both after place 1"
 
 -- The text is judged as a whole, "the earlier record first and 12 before 13 in one record": it comes to at most one of the two.
@@ -247,24 +243,37 @@ noncesLeft s t g = need atNonces (leb (book s t g .state .next) spent)
 
 -- ---- the checks of each request
 
--- by their places: 1, what the request itself is judged for; what 02 puts after it; 2 to 5, its tokens, and 15; 6 to 10 and 14, the rest
+-- by their places: 1, what the request itself is judged for; what 02 puts after it; 2 to 5, its tokens, and 15; 6 to 10, the rest
 pub record Places : Type 0 where
   pub request : List Bool
   pub after : List Check
   pub tokens : List Check
   pub rest : List Check
 
--- those of 01 and of 02's papers 1 to 3, which do not look at a shift
+-- what an access is judged for by its kind, at an offset into the segment of e: in place 1, after it, and for the bounds
+pub record Asked : Type 0 where
+  pub request : List Bool
+  pub after : List Check
+  pub bounds : List Check
+
+-- 02, paper 2: "Loads and dumps [..] use the access checks without the transfer limit", "through one offset-free token". "every record's bounds": all data lie inside
+-- if what ends last does; "a data record without bytes [..] can't be out of bounds". A dump is of the whole segment, which has no bounds to pass.
+abbrev pub asks : Access → (offset : ℕ) → (buffer : List ℕ) → Entry → Asked
+asks (moving w) o b e = record { request = transferFits b; after = []; bounds = endsInside (o + length b) e ∷ [] }
+asks loading o b e = record { request = eqb o 0 ∷ textShort b ∷ []; after = textRead b; bounds = endsInside (farthest (piecesOf b)) e ∷ [] }
+asks dumping o b e = record { request = eqb o 0 ∷ []; after = []; bounds = [] }
+
+-- of a look, which is judged by the table, and not by the state but for its settings
+abbrev pub lookPlaces : ℕ → List ℕ → Look → List ℕ → Places
+lookPlaces m t v b = elim v [ ]
+
+-- those that do not look at a shift: all but what paper 4 puts to an access
 abbrev pub unleased : ℕ → State → List ℕ → Request → List ℕ → Places
 unleased m s t (reset k0 k1 ν) b = record { request = firstNonceFits ν; after = []; tokens = []; rest = [] }
-unleased m s t (access w k u φ) b =
+unleased m s t (accessing w k u φ) b =
     let e = namedEntry t k in
-    record {
-      request = settings s t ++ (taskFits u ∷ transferFits b);
-      after = [];
-      tokens = reachable m t k u;
-      rest = rightsHeld (rightOf w) e ∷ endsInside (named k .offset + length b) e ∷ [];
-    }
+    let a = asks w (named k .offset) b e in
+    record { request = settings s t ++ (taskFits u ∷ a .request); after = a .after; tokens = reachable m t k u; rest = rightsHeld (rightFor w) e ∷ a .bounds }
 unleased m s t (create k u l x p c) b =
     let e = namedEntry t k in
     record {
@@ -319,25 +328,6 @@ unleased m s t (unlock k u) b = record {
   rest = need atStanding (isLocked t (lineOf m t (numberOf k))) ∷ [];
 }
 unleased m s t (revoke k c) b = record { request = settings s t ++ (encodingFits c ∷ noOffset k ∷ []); after = []; tokens = live m t k; rest = need atKind (isDirect (namedEntry t k)) ∷ [] }
--- 02, paper 2: "Loads and dumps [..] use the access checks without the transfer limit". "every record's bounds": all data lie inside if what ends last does; "a
--- data record without bytes [..] can't be out of bounds".
-unleased m s t (load k u φ) b =
-    let e = namedEntry t k in
-    record {
-      request = settings s t ++ (taskFits u ∷ noOffset k ∷ textShort b ∷ []);
-      after = textRead b;
-      tokens = reachable m t k u;
-      rest = rightsHeld W e ∷ endsInside (farthest (piecesOf b)) e ∷ [];
-    }
--- A dump is of the whole segment, which has no bounds to pass; "14 [..], last of all".
-unleased m s t (dump k u φ) b =
-    let e = namedEntry t k in
-    record {
-      request = settings s t ++ (taskFits u ∷ noOffset k ∷ []);
-      after = [];
-      tokens = reachable m t k u;
-      rest = rightsHeld R e ∷ needAll atRoom (textFits (e .length) b);
-    }
 -- 02, paper 6: "Entry and donor must be unlocked at count 0; lock, kind, length (8), standing, numbers and nonces are checked in 01's order." No right is among
 -- them.
 unleased m s t (pageOut k u f c) b =
@@ -358,6 +348,7 @@ unleased m s t (pageIn j k u c) b =
       tokens = pageReachable m t j u ++ pageReachable m t k u;
       rest = needAll atKind (isPaged e ∷ isDirect d ∷ []) ++ (asLong (length b) e ∷ asLong (e .length) d ∷ needAll atStanding (unlocked d ∷ uncounted d ∷ []));
     }
+unleased m s t (look v) b = let p = lookPlaces m t v b in record { request = settings s t ++ p .request; after = p .after; tokens = p .tokens; rest = p .rest }
 
 -- ---- shift windows: 15, 16 and place 1 of an access
 
@@ -383,10 +374,10 @@ leased φ k p = record {
   rest = p .rest;
 }
 
--- "both accesses only"; "Loads and dumps count as accesses."
+-- "both accesses only"
 abbrev pub shifted : Request → Places → Places
 shifted (reset k0 k1 ν) p = p
-shifted (access w k u φ) p = leased φ k p
+shifted (accessing w k u φ) p = leased φ k p
 shifted (create k u l x r c) p = p
 shifted (merge j k u c) p = p
 shifted (derive k o l r c) p = p
@@ -396,10 +387,9 @@ shifted (release k) p = p
 shifted (lock k u) p = p
 shifted (unlock k u) p = p
 shifted (revoke k c) p = p
-shifted (load k u φ) p = leased φ k p
-shifted (dump k u φ) p = leased φ k p
 shifted (pageOut k u f c) p = p
 shifted (pageIn j k u c) p = p
+shifted (look v) p = p
 
 abbrev pub places : ℕ → State → List ℕ → Request → List ℕ → Places
 places m s t q b = shifted q (unleased m s t q b)
@@ -410,3 +400,16 @@ inOrder m s t g p = needAll atRequest (sizes m t ++ p .request) ++ ((p .after ++
 
 abbrev pub checks : ℕ → State → List ℕ → Request → List ℕ → List Check
 checks m s t q b = inOrder m s t (grant m t q b) (places m s t q b)
+
+-- ---- 14, "last of all"
+
+-- "14 an output buffer too small or a written text above 65,536 bytes": what a granted request makes for the front of the buffer b keeps to its limit, and has its
+-- room there
+abbrev pub room : (limit : List ℕ → Bool) (made buffer : List ℕ) → List Check
+room limit o b = needAll atRoom (limit o ∷ leb (length o) (length b) ∷ [])
+
+-- the checks after all others: those of what fills the buffer, from the bytes of memory
+abbrev pub lastly : Fill → (memory buffer : List ℕ) → List Check
+lastly unfilled memory b = []
+lastly (entire a n f) memory b = []
+lastly (front a n f limit) memory b = room limit (f (take n (drop a memory))) b

@@ -7,11 +7,11 @@ use mathlib.Core.List.{List, [], _∷_}
 use Prim.Native.Nat.{ℕ, _+_, _≤_, _<_}
 use Rattle.tokens.specs.Permissions.{within, X}
 use Rattle.tokens.specs.Token.{named}
-use Rattle.machine.specs.Demand3.{Accepted}
 use Rattle.machine.specs.FromReset.{Sound}
 use Rattle.machine.specs.Given.{nameIn}
+use Rattle.machine.specs.MachineSystem.{Accepted}
 use Rattle.machine.specs.Operations.{namedEntry}
-use Rattle.machine.specs.Requests.{access, Call, derive, executeOnly, rightOf, Shift, Way}
+use Rattle.machine.specs.Requests.{Access, accessing, Call, derive, executeOnly, rightFor, Shift}
 use Rattle.machine.specs.ShiftWindows.{Within}
 use Rattle.machine.specs.Steps.{answer, decision, Machine, step}
 
@@ -45,19 +45,19 @@ AsExecuteOnly =
     (σ : Machine) (k c : ℕ) (b : List ℕ) → lengthOf σ k ≢ 0
     → decision σ (deriveCall k 0 (lengthOf σ k) X c b) ≡ decision σ (record { request = executeOnly k c; buffer = b })
 
--- an access by a way, at an address: a token with an offset
-abbrev pub accessCall : Way → (address task : ℕ) → Shift → (buffer : List ℕ) → Call
-accessCall w x u φ b = record { request = access w x u φ; buffer = b }
+-- an access, at an address: a token with an offset
+abbrev pub accessCall : Access → (address task : ℕ) → Shift → (buffer : List ℕ) → Call
+accessCall w x u φ b = record { request = accessing w x u φ; buffer = b }
 
 -- "The weigher hands its complete buffer to a card": q passes on all that the token k names, with the permissions p. Its answer carries one token, and by
--- that the card has what k has, as far as p allows: each access that k opens before q, at any offset and by a way that p has, its token opens after q, with
+-- that the card has what k has, as far as p allows: each access that k opens before q, at any offset and of a kind that p has, its token opens after q, with
 -- the same answer and the same memory left. x and y are the card's token and k, each in any encoding, with the same offset. A lease of k is none of the
 -- card's token (02, paper 4): k is open in its own shift ψ, and the card's token in its own, φ, whether or not k would be.
 pub record PassedOn (σ : Machine) (k p : ℕ) (q : Call) : Type 0 where
   pub token : ℕ
   pub carried : answer σ q .reply .tokens ≡ token ∷ []
   pub opens :
-      (w : Way) → within (rightOf w) p ≡ true
+      (w : Access) → within (rightFor w) p ≡ true
       → (x y u : ℕ) (φ ψ : Shift) (b : List ℕ) → nameIn x ≡ nameIn token → nameIn y ≡ nameIn k → named x .offset ≡ named y .offset
       → Accepted σ (accessCall w y u ψ b) → Within φ x
       → (answer (step σ q) (accessCall w x u φ b) ≡ answer σ (accessCall w y u ψ b))

@@ -29,7 +29,8 @@ ghost use Rattle.machine.specs.Requests as request;
 ghost use Rattle.machine.specs.Steps.{pass};
 ghost use Rattle.table.specs.States.{stateAs};
 ghost use Rattle.tokens.specs.Token as tokens;
-ghost use Rattle.rulings.specs.Rulings.{checkedAs, ended, frontOn, handed, innerOn, ruled, rulingOn, tokensOn};
+ghost use Rattle.rulings.specs.Rulings.{checkedAs, ended, frontOn, handed, innerOn, ruled, tokensOn};
+ghost use Rattle.rulings.specs.Served.{ServedAlone};
 ghost use Rattle.merges.specs.Neighbours.{Pairs};
 
 // What the checks of a merge come to: where it stops, or the numbers of both entries.
@@ -169,7 +170,7 @@ pub fn merge(
     task: u64,
     encoding: u64,
 ) -> Outcome
-    ensures { λ r. ⌜ handed r (now (table .exit)) ≡ rulingOn (length (now (memory .entry))) (stateAs s) (now (table .entry)) (request.merge first second task encoding) [] ⌝ }
+    ensures { λ r. ⌜ ServedAlone (request.merge first second task encoding) s (now (table .entry)) (now (memory .entry)) r (now (table .exit)) (now (memory .entry)) ⌝ }
 {
     let bytes = memory.len() as u64;
     let r = check_merge(s, table, bytes, first, second, task, encoding);

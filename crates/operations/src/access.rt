@@ -1,89 +1,70 @@
-// Accesses: read, write and fetch, through a token, at its offset. Each brings leases and the minute.
+// Accesses: bytes that are read, written or fetched, a load and a dump.
 use crate::state::State;
-use accesses::access::Loading;
-use accesses::access::fill;
-use accesses::access::write;
+use accesses::access::access;
+use images::image::serve_image;
 use rulings::reply::Outcome;
+use rulings::request::Image;
+use rulings::request::Way;
 ghost use mathlib.Core.Path.{_≡_};
-ghost use lib.ListN.{length};
 ghost use Rattle.checks.specs.Shifts.{shiftAs};
 ghost use Rattle.machine.specs.Requests as request;
-ghost use Rattle.machine.specs.Steps.{bufferAfter, memoryAfter};
-ghost use Rattle.table.specs.States.{stateAs};
-ghost use Rattle.rulings.specs.Rulings.{effectOn, handed, rulingOn};
+ghost use Rattle.rulings.specs.Asked.{imageAs, wayAs};
+ghost use Rattle.rulings.specs.Served.{Served};
 
 impl State {
-    // The segment's bytes at the token's offset go to the buffer: needs R.
-    pub fn read(
+    // The bytes move between the buffer and the segment, at the token's offset.
+    pub fn access(
         mut self,
-        table: &[u8],
-        memory: &[u8],
-        buffer: &mut [u8],
-        leases: &[u8],
-        token: u64,
-        task: u64,
-        minute: u64,
-    ) -> Outcome
-        ensures { λ r. ⌜ handed r (now (table .entry)) ≡ rulingOn (length (now (memory .entry))) (stateAs (self .words)) (now (table .entry)) (request.access request.reading token task (shiftAs minute (now (leases .entry)))) (now (buffer .entry)) ⌝ }
-        ensures { λ _. ⌜ now (buffer .exit) ≡ bufferAfter (effectOn (length (now (memory .entry))) (stateAs (self .words)) (now (table .entry)) (request.access request.reading token task (shiftAs minute (now (leases .entry)))) (now (buffer .entry))) (now (memory .entry)) (now (buffer .entry)) ⌝ }
-    {
-        let words = self.words;
-        fill(
-            words,
-            Loading::Read,
-            table,
-            memory,
-            buffer,
-            leases,
-            token,
-            task,
-            minute,
-        )
-    }
-
-    // The same with X.
-    pub fn fetch(
-        mut self,
-        table: &[u8],
-        memory: &[u8],
-        buffer: &mut [u8],
-        leases: &[u8],
-        token: u64,
-        task: u64,
-        minute: u64,
-    ) -> Outcome
-        ensures { λ r. ⌜ handed r (now (table .entry)) ≡ rulingOn (length (now (memory .entry))) (stateAs (self .words)) (now (table .entry)) (request.access request.fetching token task (shiftAs minute (now (leases .entry)))) (now (buffer .entry)) ⌝ }
-        ensures { λ _. ⌜ now (buffer .exit) ≡ bufferAfter (effectOn (length (now (memory .entry))) (stateAs (self .words)) (now (table .entry)) (request.access request.fetching token task (shiftAs minute (now (leases .entry)))) (now (buffer .entry))) (now (memory .entry)) (now (buffer .entry)) ⌝ }
-    {
-        let words = self.words;
-        fill(
-            words,
-            Loading::Fetch,
-            table,
-            memory,
-            buffer,
-            leases,
-            token,
-            task,
-            minute,
-        )
-    }
-
-    // The buffer goes to the segment at the token's offset: needs W.
-    pub fn write(
-        mut self,
+        way: Way,
         table: &[u8],
         memory: &mut [u8],
-        buffer: &[u8],
+        buffer: &mut [u8],
         leases: &[u8],
         token: u64,
         task: u64,
         minute: u64,
     ) -> Outcome
-        ensures { λ r. ⌜ handed r (now (table .entry)) ≡ rulingOn (length (now (memory .entry))) (stateAs (self .words)) (now (table .entry)) (request.access request.writing token task (shiftAs minute (now (leases .entry)))) (now (buffer .entry)) ⌝ }
-        ensures { λ _. ⌜ now (memory .exit) ≡ memoryAfter (effectOn (length (now (memory .entry))) (stateAs (self .words)) (now (table .entry)) (request.access request.writing token task (shiftAs minute (now (leases .entry)))) (now (buffer .entry))) (now (memory .entry)) ⌝ }
+        ensures { λ r. ⌜ Served (request.access (wayAs way) token task (shiftAs minute (now (leases .entry)))) (self .words) (now (table .entry)) (now (memory .entry)) (now (buffer .entry)) r (now (table .entry)) (now (memory .exit)) (now (buffer .exit)) ⌝ }
     {
         let words = self.words;
-        write(words, table, memory, buffer, leases, token, task, minute)
+        access(
+            words,
+            way,
+            table,
+            memory,
+            buffer,
+            leases,
+            token,
+            task,
+            minute,
+        )
+    }
+
+    // The buffer is the text that is read into the segment, or has the segment's text at its front.
+    pub fn image(
+        mut self,
+        kind: Image,
+        table: &[u8],
+        memory: &mut [u8],
+        buffer: &mut [u8],
+        leases: &[u8],
+        token: u64,
+        task: u64,
+        minute: u64,
+    ) -> Outcome
+        ensures { λ r. ⌜ Served (request.accessing (imageAs kind) token task (shiftAs minute (now (leases .entry)))) (self .words) (now (table .entry)) (now (memory .entry)) (now (buffer .entry)) r (now (table .entry)) (now (memory .exit)) (now (buffer .exit)) ⌝ }
+    {
+        let words = self.words;
+        serve_image(
+            words,
+            kind,
+            table,
+            memory,
+            buffer,
+            leases,
+            token,
+            task,
+            minute,
+        )
     }
 }

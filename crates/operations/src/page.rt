@@ -4,11 +4,8 @@ use paging::page_in::page_in;
 use paging::page_out::page_out;
 use rulings::reply::Outcome;
 ghost use mathlib.Core.Path.{_≡_};
-ghost use lib.ListN.{length};
 ghost use Rattle.machine.specs.Requests as request;
-ghost use Rattle.machine.specs.Steps.{bufferAfter, memoryAfter};
-ghost use Rattle.table.specs.States.{stateAs};
-ghost use Rattle.rulings.specs.Rulings.{effectOn, handed, rulingOn};
+ghost use Rattle.rulings.specs.Served.{Served};
 
 impl State {
     // The segment's bytes go to the buffer, and its entry is paged out under a page-file number. The
@@ -23,9 +20,7 @@ impl State {
         page: u64,
         encoding: u64,
     ) -> Outcome
-        ensures { λ r. ⌜ handed r (now (table .exit)) ≡ rulingOn (length (now (memory .entry))) (stateAs (self .words)) (now (table .entry)) (request.pageOut token task page encoding) (now (buffer .entry)) ⌝ }
-        ensures { λ _. ⌜ now (memory .exit) ≡ memoryAfter (effectOn (length (now (memory .entry))) (stateAs (self .words)) (now (table .entry)) (request.pageOut token task page encoding) (now (buffer .entry))) (now (memory .entry)) ⌝ }
-        ensures { λ _. ⌜ now (buffer .exit) ≡ bufferAfter (effectOn (length (now (memory .entry))) (stateAs (self .words)) (now (table .entry)) (request.pageOut token task page encoding) (now (buffer .entry))) (now (memory .entry)) (now (buffer .entry)) ⌝ }
+        ensures { λ r. ⌜ Served (request.pageOut token task page encoding) (self .words) (now (table .entry)) (now (memory .entry)) (now (buffer .entry)) r (now (table .exit)) (now (memory .exit)) (now (buffer .exit)) ⌝ }
     {
         let words = self.words;
         page_out(words, table, memory, buffer, token, task, page, encoding)
@@ -42,8 +37,7 @@ impl State {
         task: u64,
         encoding: u64,
     ) -> Outcome
-        ensures { λ r. ⌜ handed r (now (table .exit)) ≡ rulingOn (length (now (memory .entry))) (stateAs (self .words)) (now (table .entry)) (request.pageIn token donor task encoding) (now (buffer .entry)) ⌝ }
-        ensures { λ _. ⌜ now (memory .exit) ≡ memoryAfter (effectOn (length (now (memory .entry))) (stateAs (self .words)) (now (table .entry)) (request.pageIn token donor task encoding) (now (buffer .entry))) (now (memory .entry)) ⌝ }
+        ensures { λ r. ⌜ Served (request.pageIn token donor task encoding) (self .words) (now (table .entry)) (now (memory .entry)) (now (buffer .entry)) r (now (table .exit)) (now (memory .exit)) (now (buffer .entry)) ⌝ }
     {
         let words = self.words;
         page_in(words, table, memory, buffer, token, donor, task, encoding)

@@ -6,11 +6,8 @@ use references::derive::derive;
 use references::execute_only::execute_only;
 use rulings::reply::Outcome;
 ghost use mathlib.Core.Path.{_≡_};
-ghost use mathlib.Core.List.{[]};
-ghost use lib.ListN as list;
 ghost use Rattle.machine.specs.Requests as request;
-ghost use Rattle.table.specs.States.{stateAs};
-ghost use Rattle.rulings.specs.Rulings.{handed, rulingOn};
+ghost use Rattle.rulings.specs.Served.{ServedAlone};
 
 impl State {
     // A token for a part of the segment, or for all of it, with no permission that its parent has not.
@@ -24,7 +21,7 @@ impl State {
         permissions: u64,
         encoding: u64,
     ) -> Outcome
-        ensures { λ r. ⌜ handed r (now (table .exit)) ≡ rulingOn (list.length (now (memory .entry))) (stateAs (self .words)) (now (table .entry)) (request.derive token offset length permissions encoding) [] ⌝ }
+        ensures { λ r. ⌜ ServedAlone (request.derive token offset length permissions encoding) (self .words) (now (table .entry)) (now (memory .entry)) r (now (table .exit)) (now (memory .entry)) ⌝ }
     {
         let words = self.words;
         derive(
@@ -47,7 +44,7 @@ impl State {
         token: u64,
         encoding: u64,
     ) -> Outcome
-        ensures { λ r. ⌜ handed r (now (table .exit)) ≡ rulingOn (list.length (now (memory .entry))) (stateAs (self .words)) (now (table .entry)) (request.executeOnly token encoding) [] ⌝ }
+        ensures { λ r. ⌜ ServedAlone (request.executeOnly token encoding) (self .words) (now (table .entry)) (now (memory .entry)) r (now (table .exit)) (now (memory .entry)) ⌝ }
     {
         let words = self.words;
         execute_only(words, table, memory, token, encoding)
@@ -55,7 +52,7 @@ impl State {
 
     // One more holder of the token.
     pub fn clone(mut self, table: &mut [u8], memory: &[u8], token: u64) -> Outcome
-        ensures { λ r. ⌜ handed r (now (table .exit)) ≡ rulingOn (list.length (now (memory .entry))) (stateAs (self .words)) (now (table .entry)) (request.clone token) [] ⌝ }
+        ensures { λ r. ⌜ ServedAlone (request.clone token) (self .words) (now (table .entry)) (now (memory .entry)) r (now (table .exit)) (now (memory .entry)) ⌝ }
     {
         let words = self.words;
         clone(words, table, memory, token)
@@ -63,7 +60,7 @@ impl State {
 
     // One holder of the token less.
     pub fn drop(mut self, table: &mut [u8], memory: &[u8], token: u64) -> Outcome
-        ensures { λ r. ⌜ handed r (now (table .exit)) ≡ rulingOn (list.length (now (memory .entry))) (stateAs (self .words)) (now (table .entry)) (request.release token) [] ⌝ }
+        ensures { λ r. ⌜ ServedAlone (request.release token) (self .words) (now (table .entry)) (now (memory .entry)) r (now (table .exit)) (now (memory .entry)) ⌝ }
     {
         let words = self.words;
         drop(words, table, memory, token)

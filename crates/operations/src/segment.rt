@@ -6,12 +6,8 @@ use segments::create::create;
 use segments::reset::reset;
 use segments::revoke::revoke;
 ghost use mathlib.Core.Path.{_≡_};
-ghost use mathlib.Core.List.{[]};
-ghost use lib.ListN as list;
 ghost use Rattle.machine.specs.Requests as request;
-ghost use Rattle.machine.specs.Steps.{memoryAfter};
-ghost use Rattle.table.specs.States.{stateAs};
-ghost use Rattle.rulings.specs.Rulings.{effectOn, handed, rulingOn};
+ghost use Rattle.rulings.specs.Served.{ServedAlone};
 
 impl State {
     // Writes the root entry, makes all other entries zeros, and starts from the key and nonce.
@@ -23,7 +19,7 @@ impl State {
         key1: u64,
         first_nonce: u64,
     ) -> Outcome
-        ensures { λ r. ⌜ handed r (now (table .exit)) ≡ rulingOn (list.length (now (memory .entry))) (stateAs (self .words)) (now (table .entry)) (request.reset key0 key1 «first_nonce») [] ⌝ }
+        ensures { λ r. ⌜ ServedAlone (request.reset key0 key1 «first_nonce») (self .words) (now (table .entry)) (now (memory .entry)) r (now (table .exit)) (now (memory .entry)) ⌝ }
     {
         let words = self.words;
         reset(words, table, memory, key0, key1, first_nonce)
@@ -42,7 +38,7 @@ impl State {
         permissions: u64,
         encoding: u64,
     ) -> Outcome
-        ensures { λ r. ⌜ handed r (now (table .exit)) ≡ rulingOn (list.length (now (memory .entry))) (stateAs (self .words)) (now (table .entry)) (request.create token task length user permissions encoding) [] ⌝ }
+        ensures { λ r. ⌜ ServedAlone (request.create token task length user permissions encoding) (self .words) (now (table .entry)) (now (memory .entry)) r (now (table .exit)) (now (memory .entry)) ⌝ }
     {
         let words = self.words;
         create(
@@ -68,7 +64,7 @@ impl State {
         task: u64,
         encoding: u64,
     ) -> Outcome
-        ensures { λ r. ⌜ handed r (now (table .exit)) ≡ rulingOn (list.length (now (memory .entry))) (stateAs (self .words)) (now (table .entry)) (request.merge first second task encoding) [] ⌝ }
+        ensures { λ r. ⌜ ServedAlone (request.merge first second task encoding) (self .words) (now (table .entry)) (now (memory .entry)) r (now (table .exit)) (now (memory .entry)) ⌝ }
     {
         let words = self.words;
         merge(words, table, memory, first, second, task, encoding)
@@ -82,8 +78,7 @@ impl State {
         token: u64,
         encoding: u64,
     ) -> Outcome
-        ensures { λ r. ⌜ handed r (now (table .exit)) ≡ rulingOn (list.length (now (memory .entry))) (stateAs (self .words)) (now (table .entry)) (request.revoke token encoding) [] ⌝ }
-        ensures { λ _. ⌜ now (memory .exit) ≡ memoryAfter (effectOn (list.length (now (memory .entry))) (stateAs (self .words)) (now (table .entry)) (request.revoke token encoding) []) (now (memory .entry)) ⌝ }
+        ensures { λ r. ⌜ ServedAlone (request.revoke token encoding) (self .words) (now (table .entry)) (now (memory .entry)) r (now (table .exit)) (now (memory .exit)) ⌝ }
     {
         let words = self.words;
         revoke(words, table, memory, token, encoding)

@@ -129,15 +129,24 @@ module _ (m : ℕ) (s : State) (t : List ℕ) (k u f c : ℕ) (b : List ℕ) (h 
   pub idle : (n : Named) (e : Entry) → n ≡ named k → e ≡ at t (n .number) → Idle m s t (n .number) e c b
   idle n e is there = rw (there, is) named-idle
 
--- ---- what is handed back, where the token is read as n, its entry as e, and new is the new number
+-- ---- what is handed back
 
-module _ (s : StateWords) (t : List ℕ) (k p c : ℕ) (n : Named) (e : Entry) (w v new : ℕ) (f : FoundTwo) (is : n ≡ named k) (there : e ≡ at t (n .number)) (full : at t (n .number) .kind ≡ 0 → ⊥)
-    (paged : entryOf w ≡ outOf e p 0) (anew : entryOf v ≡ fresh e 0) (number : new ≡ newNumber (stateAs s) t) (found : FindsTwo (stateAs s) t (n .number) (entryOf w) new (entryOf v) f) where
+-- the token is read as n, its entry as e; w and v are what is issued, paged out and zeroed, new is the new number, and f is found for both
+pub record Sends (s : StateWords) (t : List ℕ) (k p : ℕ) (n : Named) (e : Entry) (w v new : ℕ) (f : FoundTwo) : Type 0 where
+  pub is : n ≡ named k
+  pub there : e ≡ at t (n .number)
+  pub full : at t (n .number) .kind ≡ 0 → ⊥
+  pub paged : entryOf w ≡ outOf e p 0
+  pub anew : entryOf v ≡ fresh e 0
+  pub number : new ≡ newNumber (stateAs s) t
+  pub found : FindsTwo (stateAs s) t (n .number) (entryOf w) new (entryOf v) f
+
+module _ {s : StateWords} {t : List ℕ} {k p : ℕ} {n : Named} {e : Entry} {w v new : ℕ} {f : FoundTwo} (x : Sends s t k p n e w v new f) (c : ℕ) where
   abbrev g : Grant
   g = grantPageOut t (numberOf k) p c
 
   here : e ≡ namedEntry t k
-  here = rw is at there
+  here = rw (x .is) at (x .there)
 
   -- the state and the table that the first issue leaves
   abbrev ν : ℕ
@@ -156,14 +165,14 @@ module _ (s : StateWords) (t : List ℕ) (k p c : ℕ) (n : Named) (e : Entry) (
   kept : ν < spent → new ≡ newNumber s₁ t₁
   kept h =
       let first : Found = record { nonce = otherNonce (stateAs s) t (n .number) (dated (entryOf w)); tag = issue (stateAs s) (n .number) (dated (entryOf w) (otherNonce (stateAs s) t (n .number) (dated (entryOf w)))) .tag } in
-      let same = new-kept (stateAs s) t new (n .number) c w first (record { nonce = refl; tag = λ i. refl }) (rw (paged, here, is) h) full (rw paged (laidPaged refl)) number in
-      rw (paged, here, is) at same
+      let same = new-kept (stateAs s) t new (n .number) c w first (record { nonce = refl; tag = λ i. refl }) (rw (x .paged, here, x .is) h) (x .full) (rw (x .paged) (laidPaged refl)) (x .number) in
+      rw (x .paged, here, x .is) at same
 
   too-few : spent ≤ f .second .nonce → spent < book (stateAs s) t g .state .next
   too-few h = go (decLt ν spent)
     where
       go : Dec (ν < spent) → spent < book (stateAs s) t g .state .next
-      go (yes i) = let end = found .none h (s .last) (s .total) in omega (arith, next, rw (paged, anew, here, is, kept i) at end)
+      go (yes i) = let end = x .found .none h (s .last) (s .total) in omega (arith, next, rw (x .paged, x .anew, here, x .is, kept i) at end)
       go (no i) = omega (arith, next, other-least s₁ t₁ (newNumber s₁ t₁) (fresh (namedEntry t k)))
 
   pub out-spent : spent ≤ f .second .nonce → (r : Outcome) → r ≡ refusing s Nonces → handed r t ≡ ruled (ended (stateAs s) t g)
@@ -175,18 +184,18 @@ module _ (s : StateWords) (t : List ℕ) (k p c : ℕ) (n : Named) (e : Entry) (
   module _ (h : f .second .nonce < spent) where
     enough : book (stateAs s) t g .state .next ≤ spent
     enough =
-        let first : f .first .nonce ≡ ν = found .one h .nonce ∙ rw (paged, here, is) in
-        let second = found .two h (s .last) (s .total) .nonce in
-        let low : ν < spent = rw first at (found .left h) in
-        omega (arith, next, rw (paged, anew, here, is, first, kept low) at second)
+        let first : f .first .nonce ≡ ν = x .found .one h .nonce ∙ rw (x .paged, here, x .is) in
+        let second = x .found .two h (s .last) (s .total) .nonce in
+        let low : ν < spent = rw first at (x .found .left h) in
+        omega (arith, next, rw (x .paged, x .anew, here, x .is, first, kept low) at second)
 
     pub out-grants : (b : IssuedTwo) (r : Outcome) (t₂ : List ℕ)
         → issuedTwoAs b t₂ ≡ leftBy (written c (opened (stateAs s) t) (reissue (n .number) (dated (entryOf w)) ∷ give (dated (entryOf v)) ∷ []))
         → r ≡ givingTwo (b .state) (b .first) (b .second) → handed r t₂ ≡ ruled (ended (stateAs s) t g)
-    out-grants b r t₂ left done = left-ruled (stateAs s) t g enough _ (rw done (ap leaving left ∙ rw (paged, anew, there, is)))
+    out-grants b r t₂ left done = left-ruled (stateAs s) t g enough _ (rw done (ap leaving left ∙ rw (x .paged, x .anew, x .there, x .is)))
 
     pub out-clears : (memory memory′ : List ℕ) → memory′ ≡ sets memory (e .base) (replicate (e .length) 0) → memory′ ≡ memoryAfter (ended (stateAs s) t g .effect) memory
-    out-clears memory memory′ cleared = cleared ∙ rw (left-effect (stateAs s) t g enough, there, is)
+    out-clears memory memory′ cleared = cleared ∙ rw (left-effect (stateAs s) t g enough, x .there, x .is)
 
     pub out-fills : (memory buffer buffer′ : List ℕ) → buffer′ ≡ take (e .length) (drop (e .base) memory) → buffer′ ≡ bufferAfter (ended (stateAs s) t g .effect) memory buffer
-    out-fills memory buffer buffer′ filled = filled ∙ rw (left-effect (stateAs s) t g enough, there, is)
+    out-fills memory buffer buffer′ filled = filled ∙ rw (left-effect (stateAs s) t g enough, x .there, x .is)

@@ -5,11 +5,8 @@ use crate::page_out::page_out;
 use rulings::reply::Outcome;
 use table::state::StateWords;
 ghost use mathlib.Core.Path.{_≡_};
-ghost use lib.ListN.{length};
 ghost use Rattle.machine.specs.Requests as request;
-ghost use Rattle.machine.specs.Steps.{bufferAfter, memoryAfter};
-ghost use Rattle.table.specs.States.{stateAs};
-ghost use Rattle.rulings.specs.Rulings.{effectOn, handed, rulingOn};
+ghost use Rattle.rulings.specs.Served.{Served};
 ghost use Rattle.paging.specs.Kinds.{kindAs};
 
 pub enum Kind {
@@ -18,7 +15,7 @@ pub enum Kind {
 }
 
 // What both do: the second word is the page-file number, or the donor's token.
-fn page(
+fn in_or_out(
     mut s: StateWords,
     kind: Kind,
     table: &mut [u8],
@@ -29,9 +26,7 @@ fn page(
     task: u64,
     encoding: u64,
 ) -> Outcome
-    ensures { λ r. ⌜ handed r (now (table .exit)) ≡ rulingOn (length (now (memory .entry))) (stateAs s) (now (table .entry)) (kindAs kind token second task encoding) (now (buffer .entry)) ⌝ }
-    ensures { λ _. ⌜ now (memory .exit) ≡ memoryAfter (effectOn (length (now (memory .entry))) (stateAs s) (now (table .entry)) (kindAs kind token second task encoding) (now (buffer .entry))) (now (memory .entry)) ⌝ }
-    ensures { λ _. ⌜ now (buffer .exit) ≡ bufferAfter (effectOn (length (now (memory .entry))) (stateAs s) (now (table .entry)) (kindAs kind token second task encoding) (now (buffer .entry))) (now (memory .entry)) (now (buffer .entry)) ⌝ }
+    ensures { λ r. ⌜ Served (kindAs kind token second task encoding) s (now (table .entry)) (now (memory .entry)) (now (buffer .entry)) r (now (table .exit)) (now (memory .exit)) (now (buffer .exit)) ⌝ }
 {
     match kind {
         Kind::Out => page_out(s, table, memory, buffer, token, task, second, encoding),
@@ -47,21 +42,19 @@ pub fn serve_out(
     buffer: &mut [u8],
     token: u64,
     task: u64,
-    page_file: u64,
+    page: u64,
     encoding: u64,
 ) -> Outcome
-    ensures { λ r. ⌜ handed r (now (table .exit)) ≡ rulingOn (length (now (memory .entry))) (stateAs s) (now (table .entry)) (request.pageOut token task «page_file» encoding) (now (buffer .entry)) ⌝ }
-    ensures { λ _. ⌜ now (memory .exit) ≡ memoryAfter (effectOn (length (now (memory .entry))) (stateAs s) (now (table .entry)) (request.pageOut token task «page_file» encoding) (now (buffer .entry))) (now (memory .entry)) ⌝ }
-    ensures { λ _. ⌜ now (buffer .exit) ≡ bufferAfter (effectOn (length (now (memory .entry))) (stateAs s) (now (table .entry)) (request.pageOut token task «page_file» encoding) (now (buffer .entry))) (now (memory .entry)) (now (buffer .entry)) ⌝ }
+    ensures { λ r. ⌜ Served (request.pageOut token task page encoding) s (now (table .entry)) (now (memory .entry)) (now (buffer .entry)) r (now (table .exit)) (now (memory .exit)) (now (buffer .exit)) ⌝ }
 {
-    page(
+    in_or_out(
         s,
         Kind::Out,
         table,
         memory,
         buffer,
         token,
-        page_file,
+        page,
         task,
         encoding,
     )
@@ -78,11 +71,9 @@ pub fn serve_in(
     task: u64,
     encoding: u64,
 ) -> Outcome
-    ensures { λ r. ⌜ handed r (now (table .exit)) ≡ rulingOn (length (now (memory .entry))) (stateAs s) (now (table .entry)) (request.pageIn token donor task encoding) (now (buffer .entry)) ⌝ }
-    ensures { λ _. ⌜ now (memory .exit) ≡ memoryAfter (effectOn (length (now (memory .entry))) (stateAs s) (now (table .entry)) (request.pageIn token donor task encoding) (now (buffer .entry))) (now (memory .entry)) ⌝ }
-    ensures { λ _. ⌜ now (buffer .exit) ≡ bufferAfter (effectOn (length (now (memory .entry))) (stateAs s) (now (table .entry)) (request.pageIn token donor task encoding) (now (buffer .entry))) (now (memory .entry)) (now (buffer .entry)) ⌝ }
+    ensures { λ r. ⌜ Served (request.pageIn token donor task encoding) s (now (table .entry)) (now (memory .entry)) (now (buffer .entry)) r (now (table .exit)) (now (memory .exit)) (now (buffer .exit)) ⌝ }
 {
-    page(
+    in_or_out(
         s,
         Kind::In,
         table,

@@ -31,7 +31,8 @@ ghost use Rattle.machine.specs.Requests as request;
 ghost use Rattle.machine.specs.Steps.{memoryAfter, pass};
 ghost use Rattle.table.specs.States.{stateAs};
 ghost use Rattle.tokens.specs.Token as tokens;
-ghost use Rattle.rulings.specs.Rulings.{checkedAs, effectOn, ended, frontOn, handed, innerOn, ruled, rulingOn, tokensOn};
+ghost use Rattle.rulings.specs.Rulings.{checkedAs, ended, frontOn, handed, innerOn, ruled, tokensOn};
+ghost use Rattle.rulings.specs.Served.{Served};
 
 // Places 2 to 5 for one token, then for the other. The tokens are read as one and two.
 fn reach_both(
@@ -176,8 +177,7 @@ pub fn page_in(
     task: u64,
     encoding: u64,
 ) -> Outcome
-    ensures { λ r. ⌜ handed r (now (table .exit)) ≡ rulingOn (length (now (memory .entry))) (stateAs s) (now (table .entry)) (request.pageIn token donor task encoding) (now (buffer .entry)) ⌝ }
-    ensures { λ _. ⌜ now (memory .exit) ≡ memoryAfter (effectOn (length (now (memory .entry))) (stateAs s) (now (table .entry)) (request.pageIn token donor task encoding) (now (buffer .entry))) (now (memory .entry)) ⌝ }
+    ensures { λ r. ⌜ Served (request.pageIn token donor task encoding) s (now (table .entry)) (now (memory .entry)) (now (buffer .entry)) r (now (table .exit)) (now (memory .exit)) (now (buffer .entry)) ⌝ }
 {
     let bytes = memory.len() as u64;
     let r = check_in(s, table, bytes, buffer, token, donor, task, encoding);

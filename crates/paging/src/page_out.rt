@@ -30,7 +30,8 @@ ghost use Rattle.machine.specs.Requests as request;
 ghost use Rattle.machine.specs.Steps.{bufferAfter, memoryAfter};
 ghost use Rattle.table.specs.States.{stateAs};
 ghost use Rattle.rulings.specs.Allotments.{Allots, Limits};
-ghost use Rattle.rulings.specs.Rulings.{effectOn, ended, frontOn, handed, innerOn, ruled, rulingOn};
+ghost use Rattle.rulings.specs.Rulings.{ended, frontOn, handed, innerOn, ruled};
+ghost use Rattle.rulings.specs.Served.{Served};
 ghost use Rattle.rulings.specs.declared.allot.Allotted.the-variants.{Number};
 
 // Places 6 to 10 for the entry e and a buffer of so many bytes, whatever token names it.
@@ -136,9 +137,7 @@ pub fn page_out(
     page: u64,
     encoding: u64,
 ) -> Outcome
-    ensures { λ r. ⌜ handed r (now (table .exit)) ≡ rulingOn (length (now (memory .entry))) (stateAs s) (now (table .entry)) (request.pageOut token task page encoding) (now (buffer .entry)) ⌝ }
-    ensures { λ _. ⌜ now (memory .exit) ≡ memoryAfter (effectOn (length (now (memory .entry))) (stateAs s) (now (table .entry)) (request.pageOut token task page encoding) (now (buffer .entry))) (now (memory .entry)) ⌝ }
-    ensures { λ _. ⌜ now (buffer .exit) ≡ bufferAfter (effectOn (length (now (memory .entry))) (stateAs s) (now (table .entry)) (request.pageOut token task page encoding) (now (buffer .entry))) (now (memory .entry)) (now (buffer .entry)) ⌝ }
+    ensures { λ r. ⌜ Served (request.pageOut token task page encoding) s (now (table .entry)) (now (memory .entry)) (now (buffer .entry)) r (now (table .exit)) (now (memory .exit)) (now (buffer .exit)) ⌝ }
 {
     let r = check_out(
         s,

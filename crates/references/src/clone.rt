@@ -16,12 +16,12 @@ use tokens::token::Named;
 use tokens::token::read;
 ghost use mathlib.Core.Path.{_≡_};
 ghost use mathlib.Core.List.{[]};
-ghost use lib.ListN.{length};
 ghost use Rattle.machine.specs.Requests as request;
 ghost use Rattle.machine.specs.Steps.{pass};
 ghost use Rattle.table.specs.States.{stateAs};
 ghost use Rattle.tokens.specs.Token as tokens;
-ghost use Rattle.rulings.specs.Rulings.{checkedAs, granting, handed, rulingOn, verdictOn};
+ghost use Rattle.rulings.specs.Rulings.{checkedAs, granting, handed, verdictOn};
+ghost use Rattle.rulings.specs.Served.{ServedAlone};
 
 // The token is read as named.
 fn check_clone(s: StateWords, table: &[u8], memory: u64, token: u64, named: Named) -> Checked
@@ -65,7 +65,7 @@ fn grant_clone(
 
 // One more holder of the token.
 pub fn clone(mut s: StateWords, table: &mut [u8], memory: &[u8], token: u64) -> Outcome
-    ensures { λ r. ⌜ handed r (now (table .exit)) ≡ rulingOn (length (now (memory .entry))) (stateAs s) (now (table .entry)) (request.clone token) [] ⌝ }
+    ensures { λ r. ⌜ ServedAlone (request.clone token) s (now (table .entry)) (now (memory .entry)) r (now (table .exit)) (now (memory .entry)) ⌝ }
 {
     let bytes = memory.len() as u64;
     let named = read(token);

@@ -23,7 +23,8 @@ ghost use Rattle.machine.specs.Requests as request;
 ghost use Rattle.rulings.specs.Allotments.{allotted, Allots, Limits};
 ghost use Rattle.table.specs.States.{stateAs};
 ghost use Rattle.tokens.specs.Token as tokens;
-ghost use Rattle.rulings.specs.Rulings.{ended, frontOn, handed, innerOn, ruled, rulingOn};
+ghost use Rattle.rulings.specs.Rulings.{ended, frontOn, handed, innerOn, ruled};
+ghost use Rattle.rulings.specs.Served.{ServedAlone};
 
 // Places 7 to 10, which look at nothing else that the request carries. The token is read as named.
 fn check_part(
@@ -119,7 +120,7 @@ pub fn derive(
     permissions: u64,
     encoding: u64,
 ) -> Outcome
-    ensures { λ r. ⌜ handed r (now (table .exit)) ≡ rulingOn (list.length (now (memory .entry))) (stateAs s) (now (table .entry)) (request.derive token offset length permissions encoding) [] ⌝ }
+    ensures { λ r. ⌜ ServedAlone (request.derive token offset length permissions encoding) s (now (table .entry)) (now (memory .entry)) r (now (table .exit)) (now (memory .entry)) ⌝ }
 {
     let bytes = memory.len() as u64;
     let named = read(token);

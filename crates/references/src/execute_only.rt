@@ -14,12 +14,12 @@ use tokens::permissions::within;
 use tokens::token::read;
 ghost use mathlib.Core.Path.{_≡_};
 ghost use mathlib.Core.List.{[]};
-ghost use lib.ListN.{length};
 ghost use Rattle.machine.specs.Operations.{grant};
 ghost use Rattle.machine.specs.Requests as request;
 ghost use Rattle.rulings.specs.Allotments.{allotted, Allots};
 ghost use Rattle.table.specs.States.{stateAs};
-ghost use Rattle.rulings.specs.Rulings.{ended, frontOn, handed, ruled, rulingOn};
+ghost use Rattle.rulings.specs.Rulings.{ended, frontOn, handed, ruled};
+ghost use Rattle.rulings.specs.Served.{ServedAlone};
 
 fn check_execute_only(
     s: StateWords,
@@ -74,7 +74,7 @@ pub fn execute_only(
     token: u64,
     encoding: u64,
 ) -> Outcome
-    ensures { λ r. ⌜ handed r (now (table .exit)) ≡ rulingOn (length (now (memory .entry))) (stateAs s) (now (table .entry)) (request.executeOnly token encoding) [] ⌝ }
+    ensures { λ r. ⌜ ServedAlone (request.executeOnly token encoding) s (now (table .entry)) (now (memory .entry)) r (now (table .exit)) (now (memory .entry)) ⌝ }
 {
     let bytes = memory.len() as u64;
     let r = check_execute_only(s, table, bytes, token, encoding);

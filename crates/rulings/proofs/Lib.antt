@@ -1,2 +1,3 @@
 pub mod AllotLaws
 pub mod RulingLaws
+pub mod ServedLaws

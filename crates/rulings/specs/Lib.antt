@@ -1,2 +1,4 @@
 pub mod Allotments
+pub mod Asked
 pub mod Rulings
+pub mod Served

@@ -51,7 +51,7 @@ fillingSo s n = record { state = s; reply = Filled n }
 
 -- ---- verdicts
 
--- on a request; on its places 1 to 5; on its tokens, places 2 to 5 with what 02 puts before and behind them; and on what is left then, places 6 to 11 and 14
+-- on a request; on its places 1 to 5; on its tokens, places 2 to 5 with what 02 puts before and behind them; and on what is left then, places 6 to 11
 unfoldable pub verdictOn : ℕ → State → List ℕ → Request → List ℕ → Verdict
 verdictOn m s t q b = verdict (checks m s t q b)
 

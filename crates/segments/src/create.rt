@@ -24,12 +24,12 @@ use tokens::token::read;
 ghost use mathlib.Core.Path.{_≡_};
 ghost use mathlib.Core.List.{[]};
 ghost use Prim.Native.Nat.{ℕ, _≤_};
-ghost use lib.ListN as list;
 ghost use Rattle.machine.specs.Operations.{grant, namedEntry};
 ghost use Rattle.machine.specs.Requests as request;
 ghost use Rattle.table.specs.States.{stateAs};
 ghost use Rattle.rulings.specs.Allotments.{allotted, Allots, Limits};
-ghost use Rattle.rulings.specs.Rulings.{ended, frontOn, handed, innerOn, ruled, rulingOn};
+ghost use Rattle.rulings.specs.Rulings.{ended, frontOn, handed, innerOn, ruled};
+ghost use Rattle.rulings.specs.Served.{ServedAlone};
 
 // Places 6 to 10 for the entry e, whatever token names it and whatever the request carries besides.
 fn check_cut(s: StateWords, table: &[u8], e: Entry, length: u64, permissions: u64) -> Allotted
@@ -147,7 +147,7 @@ pub fn create(
     permissions: u64,
     encoding: u64,
 ) -> Outcome
-    ensures { λ r. ⌜ handed r (now (table .exit)) ≡ rulingOn (list.length (now (memory .entry))) (stateAs s) (now (table .entry)) (request.create token task length user permissions encoding) [] ⌝ }
+    ensures { λ r. ⌜ ServedAlone (request.create token task length user permissions encoding) s (now (table .entry)) (now (memory .entry)) r (now (table .exit)) (now (memory .entry)) ⌝ }
 {
     let bytes = memory.len() as u64;
     let r = check_create(

@@ -9,11 +9,11 @@ use rulings::reply::refused;
 use table::state::StateWords;
 ghost use mathlib.Core.Path.{_≡_};
 ghost use mathlib.Core.List.{[]};
-ghost use lib.ListN.{length};
 ghost use Rattle.machine.specs.Requests as request;
 ghost use Rattle.machine.specs.Steps.{pass};
 ghost use Rattle.table.specs.States.{stateAs};
-ghost use Rattle.rulings.specs.Rulings.{checkedAs, granting, handed, rulingOn, verdictOn};
+ghost use Rattle.rulings.specs.Rulings.{checkedAs, granting, handed, verdictOn};
+ghost use Rattle.rulings.specs.Served.{ServedAlone};
 
 // The state that is handed in is not judged: it is replaced.
 fn check_reset(
@@ -57,7 +57,7 @@ pub fn reset(
     key1: u64,
     first_nonce: u64,
 ) -> Outcome
-    ensures { λ r. ⌜ handed r (now (table .exit)) ≡ rulingOn (length (now (memory .entry))) (stateAs s) (now (table .entry)) (request.reset key0 key1 «first_nonce») [] ⌝ }
+    ensures { λ r. ⌜ ServedAlone (request.reset key0 key1 «first_nonce») s (now (table .entry)) (now (memory .entry)) r (now (table .exit)) (now (memory .entry)) ⌝ }
 {
     let bytes = memory.len() as u64;
     let r = check_reset(s, table, bytes, key0, key1, first_nonce);

@@ -24,7 +24,8 @@ ghost use Rattle.machine.specs.Operations as operation;
 ghost use Rattle.machine.specs.Requests as request;
 ghost use Rattle.machine.specs.Steps.{memoryAfter, pass};
 ghost use Rattle.table.specs.States.{stateAs};
-ghost use Rattle.rulings.specs.Rulings.{checkedAs, effectOn, ended, frontOn, handed, ruled, rulingOn};
+ghost use Rattle.rulings.specs.Rulings.{checkedAs, ended, frontOn, handed, ruled};
+ghost use Rattle.rulings.specs.Served.{ServedAlone};
 
 // The words of the entry e as it is issued anew: its segment, with all rights and no user.
 fn fresh(e: Entry) -> Words
@@ -90,8 +91,7 @@ pub fn revoke(
     token: u64,
     encoding: u64,
 ) -> Outcome
-    ensures { λ r. ⌜ handed r (now (table .exit)) ≡ rulingOn (length (now (memory .entry))) (stateAs s) (now (table .entry)) (request.revoke token encoding) [] ⌝ }
-    ensures { λ _. ⌜ now (memory .exit) ≡ memoryAfter (effectOn (length (now (memory .entry))) (stateAs s) (now (table .entry)) (request.revoke token encoding) []) (now (memory .entry)) ⌝ }
+    ensures { λ r. ⌜ ServedAlone (request.revoke token encoding) s (now (table .entry)) (now (memory .entry)) r (now (table .exit)) (now (memory .exit)) ⌝ }
 {
     let r = check_revoke(s, table, memory.len() as u64, token, encoding);
     match r {

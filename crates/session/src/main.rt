@@ -7,6 +7,7 @@ use rulings::reply::Outcome;
 use rulings::reply::Reply;
 use rulings::reply::Tokens;
 use rulings::reply::refusal_of;
+use rulings::request::Way;
 use table::state::StateWords;
 
 // The state that a request handed back.
@@ -26,14 +27,32 @@ fn shown(case: u64, r: Outcome) -> State {
 }
 
 // A read of twelve bytes, and of one.
-fn read_twelve(s: State, table: &[u8], memory: &[u8], token: u64) -> Outcome {
+fn read_twelve(s: State, table: &[u8], memory: &mut [u8], token: u64) -> Outcome {
     let mut buffer = [0u8; 12];
-    s.read(table, memory, &mut buffer, &table[..0], token, 0, 0)
+    s.access(
+        Way::Read,
+        table,
+        memory,
+        &mut buffer,
+        &table[..0],
+        token,
+        0,
+        0,
+    )
 }
 
-fn read_one(s: State, table: &[u8], memory: &[u8], token: u64, task: u64) -> Outcome {
+fn read_one(s: State, table: &[u8], memory: &mut [u8], token: u64, task: u64) -> Outcome {
     let mut buffer = [0u8; 1];
-    s.read(table, memory, &mut buffer, &table[..0], token, task, 0)
+    s.access(
+        Way::Read,
+        table,
+        memory,
+        &mut buffer,
+        &table[..0],
+        token,
+        task,
+        0,
+    )
 }
 
 // The first token of an answer.
@@ -51,7 +70,7 @@ fn token_in(r: Outcome) -> u64 {
 }
 
 // Cases 1 to 4: reads through token 0, whose offset is the address.
-fn reads(s: State, table: &[u8], memory: &[u8]) -> State {
+fn reads(s: State, table: &[u8], memory: &mut [u8]) -> State {
     let s = shown(1, read_twelve(s, table, memory, 4096));
     let s = shown(2, read_one(s, table, memory, 65535, 0));
     let s = shown(3, read_one(s, table, memory, 65536, 0));
@@ -59,7 +78,7 @@ fn reads(s: State, table: &[u8], memory: &[u8]) -> State {
 }
 
 // Cases 7 to 11.
-fn locked(s: State, table: &mut [u8], memory: &[u8]) -> State {
+fn locked(s: State, table: &mut [u8], memory: &mut [u8]) -> State {
     let s = shown(7, s.create(table, memory, 0, 0, 4096, 0, 7, 0));
     let s = shown(8, s.lock(table, memory, 0, 0));
     let s = shown(9, s.lock(table, memory, 0, 7));

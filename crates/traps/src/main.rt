@@ -7,6 +7,7 @@ use rulings::reply::Outcome;
 use rulings::reply::Reply;
 use rulings::reply::Tokens;
 use rulings::reply::refusal_of;
+use rulings::request::Way;
 use table::state::StateWords;
 
 // The state that a request handed back.
@@ -56,9 +57,18 @@ fn polled(s: State) -> State {
     s
 }
 
-fn read_one(s: State, table: &[u8], memory: &[u8], token: u64, task: u64) -> Outcome {
+fn read_one(s: State, table: &[u8], memory: &mut [u8], token: u64, task: u64) -> Outcome {
     let mut buffer = [0u8; 1];
-    s.read(table, memory, &mut buffer, &table[..0], token, task, 0)
+    s.access(
+        Way::Read,
+        table,
+        memory,
+        &mut buffer,
+        &table[..0],
+        token,
+        task,
+        0,
+    )
 }
 
 fn started(table: &mut [u8], memory: &[u8]) -> State {
@@ -86,7 +96,7 @@ fn grandchild(s: State, table: &mut [u8], memory: &[u8], parent: u64) -> Outcome
 }
 
 // Comparing the low 55 bits of a task: 2^55 + 7 is not 7.
-fn low_bits(table: &mut [u8], memory: &[u8]) {
+fn low_bits(table: &mut [u8], memory: &mut [u8]) {
     let s = started(table, memory);
     let s = shown(b"lock by 7", s.lock(table, memory, 0, 7));
     let s = shown(b"read by 7", read_one(s, table, memory, 0, 7));
@@ -98,7 +108,7 @@ fn low_bits(table: &mut [u8], memory: &[u8]) {
 }
 
 // A number given again does not revive a dead child, and a dead child can be dropped.
-fn given_again(table: &mut [u8], memory: &[u8]) {
+fn given_again(table: &mut [u8], memory: &mut [u8]) {
     let s = started(table, memory);
     let a = child(s, table, memory, 0);
     let b = grandchild(after(a), table, memory, first_token(a));
@@ -128,7 +138,7 @@ fn plain_address(table: &mut [u8], memory: &mut [u8]) {
 }
 
 // The climb of a drop: the last holder of a grandchild frees it, its parent and the root's count.
-fn climbed(table: &mut [u8], memory: &[u8]) {
+fn climbed(table: &mut [u8], memory: &mut [u8]) {
     let s = started(table, memory);
     let a = child(s, table, memory, 0);
     let b = grandchild(after(a), table, memory, first_token(a));
@@ -171,9 +181,9 @@ fn locked(table: &mut [u8], memory: &[u8]) {
 fn main() {
     let mut table = [0u8; 128];
     let mut memory = [0u8; 64];
-    low_bits(&mut table, &memory);
-    given_again(&mut table, &memory);
+    low_bits(&mut table, &mut memory);
+    given_again(&mut table, &mut memory);
     plain_address(&mut table, &mut memory);
-    climbed(&mut table, &memory);
+    climbed(&mut table, &mut memory);
     locked(&mut table, &memory);
 }

@@ -1,7 +1,7 @@
+pub mod Granted
 pub mod Images
 pub mod Kept
 pub mod Pages
-pub mod Recorded
 pub mod Shifts
 pub mod Totals
 pub mod Uses

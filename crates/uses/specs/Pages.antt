@@ -4,7 +4,7 @@ use mathlib.Core.List.{[], _∷_}
 use lib.ListN.{replicate}
 use Rattle.machine.specs.Paging.{inCall, outCall}
 use Rattle.machine.specs.Requests.{Call, create}
-use Rattle.machine.specs.Session.{plain}
+use Rattle.recorded.specs.Session.{plain}
 use Rattle.machine.specs.Steps.{Machine}
 use Rattle.machine.specs.Writes.{Name, tokenFor}
 

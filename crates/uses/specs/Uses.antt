@@ -1,16 +1,19 @@
 -- Small lists that the claims are held against: 8 bytes of memory, or one, a table of two entries, key 0.
 -- Assumes nothing.
-use mathlib.Core.Path.{_≡_}
-use mathlib.Core.List.{List, [], _∷_, _++_, List·Memᴰ}
+use mathlib.Core.List.{List, [], _∷_, _++_}
 use Prim.Native.Nat.{ℕ, _+_}
 use lib.ListN.{replicate, set}
-use Rattle.machine.specs.Demand3.{Accepted, FirstRevoke, LockedFor, NoneCarries, NoReset, resetCall, Under, Unreset}
-use Rattle.machine.specs.Writes.{Name, tokenFor}
+use Rattle.machine.specs.Demand3.{FirstRevoke}
+use Rattle.machine.specs.Ledger.{Event, Gave}
+use Rattle.machine.specs.MachineSystem.{Accepted, ofMachine, resetCall, Unreset}
 use Rattle.machine.specs.Parts.{at}
-use Rattle.machine.specs.Requests.{access, Call, derive, lock, noShift, reading, release, revoke}
-use Rattle.machine.specs.Session.{plain}
-use Rattle.machine.specs.Steps.{decision, Machine, run, step}
+use Rattle.machine.specs.Requests.{access, Call, derive, lock, moving, noShift, reading, release, revoke}
+use Rattle.machine.specs.Segments.{LockedFor, Under}
+use Rattle.machine.specs.Steps.{Machine, run, step}
+use Rattle.machine.specs.System.{event, ledger, Never}
 use Rattle.machine.specs.WholeDerive.{accessCall, deriveCall}
+use Rattle.machine.specs.Writes.{Name, tokenFor}
+use Rattle.recorded.specs.Session.{plain}
 
 -- ---- the premises of demand 3, in one place
 
@@ -29,23 +32,25 @@ resetOf f = resetCall (f .key0) (f .key1) (f .firstNonce) []
 abbrev pub listOf : First → List Call
 listOf f = resetOf f ∷ f .follows
 
--- the further requests qs and the revoke r; the token k that the request q gave, with a before q and b after it
-pub record Premises (σ : Machine) (f : First) (qs : List Call) (r : Call) (a : List Call) (q : Call) (b : List Call) (k : Name) : Type 0 where
+-- the further requests qs and the revoke r; the token k that the event v gave, with the events since
+pub record Premises (σ : Machine) (f : First) (qs : List Call) (r : Call) (k : Name) (v : Event) (since : List Event) : Type 0 where
   pub accepted : Accepted σ (resetOf f)
   pub oneReset : Unreset (step σ (resetOf f)) (f .follows)
-  pub locked : LockedFor (run σ (listOf f)) (f .entry) (f .task)
-  pub noReset : NoReset qs
-  pub noneCarries : NoneCarries (f .task) qs
-  pub revoked : FirstRevoke (run σ (listOf f)) (f .entry) qs r
-  pub whole : a ++ (q ∷ b) ≡ listOf f ++ qs
-  pub given : List·Memᴰ k (decision (run σ a) q .issued)
-  pub under : Under (step (run σ a) q .table) (at (run σ (listOf f) .table) (f .entry)) k
+  pub locked : LockedFor (run σ (listOf f) .table) (f .entry) (f .task)
+  pub noReset : Never ofMachine (ofMachine .Resets) (run σ (listOf f)) qs
+  pub noneCarries : Never ofMachine (λ τ q. ofMachine .Carries τ q (f .task)) (run σ (listOf f)) qs
+  pub revoked : FirstRevoke ofMachine (run σ (listOf f)) (f .entry) qs r
+  pub given : Gave k v since (ledger ofMachine [] σ (listOf f ++ qs))
+  pub under : Under (v .table) (at (run σ (listOf f) .table) (f .entry)) k
 
 -- ---- what the lists are made of
 
 -- before reset
 unfoldable pub before : Machine
 before = record { state = record { key0 = 0; key1 = 0; last = 0; next = 0; total = 0 }; table = replicate 64 0; memory = replicate 8 9 }
+
+abbrev pub reset1 : (firstNonce : ℕ) → Call
+reset1 ν = resetCall 0 0 ν []
 
 -- bytes 2 to 4 of the root for reading; the root locked for 7
 abbrev pub derives : Call
@@ -57,6 +62,13 @@ locks7 = plain (lock 0 7)
 -- what the derive gives, and the root as reset gives it
 abbrev pub child : Name
 child = record { number = 1; tag = 63154 }
+
+-- what the derive leaves in the ledger, after a reset, and what follows it there
+abbrev pub derived : Event
+derived = event ofMachine (step before (reset1 1)) derives
+
+abbrev pub sinceDerived : List Call → List Event
+sinceDerived qs = ledger ofMachine [] (run before (reset1 1 ∷ derives ∷ [])) qs
 
 -- it is dropped
 abbrev pub drops : Call
@@ -72,9 +84,6 @@ revokes k = plain (revoke k 0)
 -- one byte at an offset of the root, through that token
 abbrev pub read : (offset task : ℕ) → Call
 read o u = record { request = access reading o u noShift; buffer = 0 ∷ [] }
-
-abbrev pub reset1 : (firstNonce : ℕ) → Call
-reset1 ν = resetCall 0 0 ν []
 
 -- the root is left locked for 7
 abbrev pub first : (firstNonce : ℕ) → (follows : List Call) → First
@@ -100,4 +109,4 @@ passed = record { number = 1; tag = 59639 }
 
 -- one byte at an offset, through it
 abbrev pub readPassed : (offset : ℕ) → Call
-readPassed o = accessCall reading (tokenFor 0 passed + o) 0 noShift (0 ∷ [])
+readPassed o = accessCall (moving reading) (tokenFor 0 passed + o) 0 noShift (0 ∷ [])

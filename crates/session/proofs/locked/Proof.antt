@@ -19,5 +19,6 @@ locked-spec =
     (λ c κs. search needs)
     (λ c κs. search needs)
     (λ c κs. search needs)
-    (λ c. omega (arith, c .before .before .before .drop .kept, c .before .before .before .before .before .before .before .before .before .before .before .lock2 .kept, c .before .before .before .before .before .before .before .before .before .before .before .before .before .before .before .before .lock .kept, c .before .before .before .before .before .before .before .before .before .before .before .before .before .before .before .before .before .before .before .before .before .create .kept))
+    (λ c. omega (arith, c .before .before .before .drop .kept, c .before .before .before .before .before .before .before .before .before .read-one .kept, c .before .before .before .before .before .before .before .before .before .before .before .before .before .before .before .lock2 .kept, c .before .before .before .before .before .before .before .before .before .before .before .before .before .before .before .before .before .before .before .before .before .lock .kept, c .before .before .before .before .before .before .before .before .before .before .before .before .before .before .before .before .before .before .before .before .before .before .before .before .before .before .before .create .kept))
+    (λ c. omega (arith, c .before .before .before .drop .kept, c .before .before .before .before .before .before .before .before .before .read-one .kept, c .before .before .before .before .before .before .before .before .before .before .before .before .before .before .before .lock2 .kept, c .before .before .before .before .before .before .before .before .before .before .before .before .before .before .before .before .before .before .before .before .before .lock .kept, c .before .before .before .before .before .before .before .before .before .before .before .before .before .before .before .before .before .before .before .before .before .before .before .before .before .before .before .create .kept))
     (λ c. search needs))

@@ -17,6 +17,6 @@ revoked-spec =
     (λ c κs. search needs)
     (λ c κs. search needs)
     (λ c κs. search needs)
-    (λ c. omega (arith, c .before .before .before .drop .kept, c .before .before .before .before .before .before .before .before .before .before .before .before .before .before .before .before .before .before .before .revoke .kept))
-    (λ c. omega (arith, c .before .before .before .drop .kept, c .before .before .before .before .before .before .before .before .before .before .before .before .before .before .before .before .before .before .before .revoke .kept))
+    (λ c. omega (arith, c .before .before .before .drop .kept, c .before .before .before .before .before .before .before .before .before .read-one2 .kept, c .before .before .before .before .before .before .before .before .before .before .before .before .before .before .before .read-one .kept, c .before .before .before .before .before .before .before .before .before .before .before .before .before .before .before .before .before .before .before .before .before .before .before .revoke .kept))
+    (λ c. omega (arith, c .before .before .before .drop .kept, c .before .before .before .before .before .before .before .before .before .read-one2 .kept, c .before .before .before .before .before .before .before .before .before .before .before .before .before .before .before .read-one .kept, c .before .before .before .before .before .before .before .before .before .before .before .before .before .before .before .before .before .before .before .before .before .before .before .revoke .kept))
     (λ c. search needs))

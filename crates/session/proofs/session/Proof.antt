@@ -19,6 +19,6 @@ session-spec =
     (λ c κs. search needs)
     (λ c κs. search needs)
     (λ c κs. search needs)
-    (λ c. omega (arith, c .before .before .before .before .revoked .kept, c .before .before .before .before .before .before .before .before .before .locked .kept, c .before .before .before .before .before .before .before .before .before .before .before .before .before .before .before .derive2 .kept, c .before .before .before .before .before .before .before .before .before .before .before .before .before .before .before .before .before .before .before .before .before .before .derive .kept, c .before .before .before .before .before .before .before .before .before .before .before .before .before .before .before .before .before .before .before .before .before .before .before .before .before .before .before .before .before .before .before .reset .kept))
-    (λ c. omega (arith, c .before .before .before .before .revoked .kept, c .before .before .before .before .before .before .before .before .before .locked .kept, c .before .before .before .before .before .before .before .before .before .before .before .before .before .before .before .derive2 .kept, c .before .before .before .before .before .before .before .before .before .before .before .before .before .before .before .before .before .before .before .before .before .before .derive .kept, c .before .before .before .before .before .before .before .before .before .before .before .before .before .before .before .before .before .before .before .before .before .before .before .before .before .before .before .before .before .before .before .reset .kept))
+    (λ c. omega (arith, c .before .before .before .before .revoked .kept, c .before .before .before .before .before .before .before .before .before .before .before .locked .kept, c .before .before .before .before .before .before .before .before .before .before .before .before .before .before .before .before .before .derive2 .kept, c .before .before .before .before .before .before .before .before .before .before .before .before .before .before .before .before .before .before .before .before .before .before .before .before .derive .kept, c .before .before .before .before .before .before .before .before .before .before .before .before .before .before .before .before .before .before .before .before .before .before .before .before .before .before .before .before .before .reads .kept, c .before .before .before .before .before .before .before .before .before .before .before .before .before .before .before .before .before .before .before .before .before .before .before .before .before .before .before .before .before .before .before .before .before .before .before .reset .kept))
+    (λ c. omega (arith, c .before .before .before .before .revoked .kept, c .before .before .before .before .before .before .before .before .before .before .before .locked .kept, c .before .before .before .before .before .before .before .before .before .before .before .before .before .before .before .before .before .derive2 .kept, c .before .before .before .before .before .before .before .before .before .before .before .before .before .before .before .before .before .before .before .before .before .before .before .before .derive .kept, c .before .before .before .before .before .before .before .before .before .before .before .before .before .before .before .before .before .before .before .before .before .before .before .before .before .before .before .before .before .reads .kept, c .before .before .before .before .before .before .before .before .before .before .before .before .before .before .before .before .before .before .before .before .before .before .before .before .before .before .before .before .before .before .before .before .before .before .before .reset .kept))
     (λ c. search needs))

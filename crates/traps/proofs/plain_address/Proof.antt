@@ -19,6 +19,6 @@ plain-address-spec =
     (λ c. search needs)
     (λ c κs. search needs)
     (λ c κs. search needs)
-    (λ c. omega (arith, c .before .before .before .before .before .before .before .before .before .before .revoke .kept, c .before .before .before .before .before .before .before .before .before .before .before .before .before .before .before .before .before .before .before .before .before .started .kept))
-    (λ c. omega (arith, c .before .before .before .before .before .before .before .before .before .before .revoke .kept, c .before .before .before .before .before .before .before .before .before .before .before .before .before .before .before .before .before .before .before .before .before .started .kept))
+    (λ c. omega (arith, c .before .before .before .read-one2 .kept, c .before .before .before .before .before .before .before .before .before .before .before .before .revoke .kept, c .before .before .before .before .before .before .before .before .before .before .before .before .before .before .before .before .before .before .before .read-one .kept, c .before .before .before .before .before .before .before .before .before .before .before .before .before .before .before .before .before .before .before .before .before .before .before .before .before .started .kept))
+    (λ c. omega (arith, c .before .before .before .read-one2 .kept, c .before .before .before .before .before .before .before .before .before .before .before .before .revoke .kept, c .before .before .before .before .before .before .before .before .before .before .before .before .before .before .before .before .before .before .before .read-one .kept, c .before .before .before .before .before .before .before .before .before .before .before .before .before .before .before .before .before .before .before .before .before .before .before .before .before .started .kept))
     (λ c. search needs))

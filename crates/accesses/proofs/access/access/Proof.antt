@@ -1,14 +1,15 @@
 -- `accesses::access::access` meets its contract: it is decided by its verdict.
 -- Assumes nothing.
-use mathlib.Core.Path.{_≡_}
+use mathlib.Core.Path.{_≡_, refl}
 use lib.ListN.{length}
 use borrow.Author.Needs.{needs}
 use Rattle.machine.specs.Requests as request
 use Rattle.checks.specs.Shifts.{shiftAs}
 use Rattle.table.specs.States.{stateAs}
+use Rattle.rulings.specs.Asked.{wayAs}
 use Rattle.rulings.specs.Rulings.{verdictOn}
-use Rattle.rulings.proofs.RulingLaws.{decided-stop, effect-stop}
-use Rattle.accesses.specs.Ways.{Begins, startOf, wayAs}
+use Rattle.rulings.proofs.ServedLaws.{served, served-stop}
+use Rattle.accesses.specs.Transfers.{Begins, startOf}
 use Rattle.accesses.specs.declared.access.Transfer.{Transfer}
 use Rattle.accesses.proofs.AccessLaws.{access-effect, access-grants, access-room}
 use Rattle.accesses.proofs.access.access.Statement.{statement}
@@ -32,9 +33,7 @@ access-spec =
     (λ c κs. let q = checked (c .before .before .before .before .before) _ (c .before .before .before .r2 .given .1) in rw (q .1) (access-room _ _ _ _ _ _ _ _ (q .0)))
     (λ c κs. search needs)
     (λ c. search needs)
-    (λ c.
-    let v = checked (c .before .before .before .before) _ (c .before .before .r .given .1) in
-    (decided-stop _ _ _ _ _ _ _ (c .refused .ensures) v, (rw (effect-stop _ _ _ _ _ v), rw (effect-stop _ _ _ _ _ v))))
+    (λ c. served-stop _ (c .refused .ensures) (checked (c .before .before .before .before) _ (c .before .before .r .given .1)))
     (λ c. search needs)
     (λ c. search needs)
     (λ c.
@@ -42,4 +41,4 @@ access-spec =
     let r = y .before .before .before .before in
     let q = checked (r .before .before) _ (r .r2 .given .1) in
     let m = rw (q .1) at (y .carry .ensures) in
-    (access-grants _ _ _ _ _ _ _ _ _ (c .plain .ensures) (q .0), (rw (access-effect _ _ _ _ _ _ _ _ (q .0)) (m .0), rw (access-effect _ _ _ _ _ _ _ _ (q .0)) (m .1)))))
+    served refl (access-grants _ _ _ _ _ _ _ _ _ (c .plain .ensures) (q .0)) (rw (access-effect _ _ _ _ _ _ _ _ (q .0)) (m .0)) (rw (access-effect _ _ _ _ _ _ _ _ (q .0)) (m .1))))

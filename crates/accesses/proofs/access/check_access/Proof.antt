@@ -10,8 +10,8 @@ use Rattle.machine.specs.Requests.{access}
 use Rattle.machine.specs.Parts.{State}
 use Rattle.checks.specs.Holds.{requestHolds, settingsHold}
 use Rattle.checks.specs.Shifts.{shiftAs}
+use Rattle.rulings.specs.Asked.{wayAs}
 use Rattle.rulings.proofs.RulingLaws.{request-stops}
-use Rattle.accesses.specs.Ways.{wayAs}
 use Rattle.accesses.proofs.AccessLaws.{access-request}
 use Rattle.accesses.proofs.access.check_access.Statement.{statement}
 use Rattle.accesses.proofs.access.check_access.Tie as tie

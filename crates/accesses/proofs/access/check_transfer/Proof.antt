@@ -8,7 +8,7 @@ use borrow.Author.Needs.{needs}
 use borrow.Author.Tests.{leb-true, not-false, not-true}
 use Rattle.tokens.specs.Permissions.{within}
 use Rattle.machine.specs.Requests.{rightOf}
-use Rattle.accesses.specs.Ways.{wayAs}
+use Rattle.rulings.specs.Asked.{wayAs}
 use Rattle.accesses.proofs.AccessLaws.{right-held, transfer-in, transfer-out, transfer-right}
 use Rattle.accesses.proofs.access.check_transfer.Statement.{statement}
 use Rattle.accesses.proofs.access.check_transfer.Tie as tie

@@ -1,13 +1,9 @@
 -- `bits::siphash::compress` meets its contract: each call is a round of the definition.
 -- Assumes nothing.
 use borrow.Author.Needs.{needs}
-use Rattle.bits.specs.SipHash.{compress}
+use Rattle.bits.proofs.SipLaws.{compressed}
 use Rattle.bits.proofs.siphash.compress.Statement.{statement}
 use Rattle.bits.proofs.siphash.compress.Tie as tie
-
-returns : tie.Need-returns
-unfolding compress
-returns c = cc
 
 pub compress-spec : {M : Type 1} → statement M
 compress-spec =
@@ -15,4 +11,4 @@ compress-spec =
     (tie.spec
     (λ c κs. search needs)
     (λ c κs. search needs)
-    returns)
+    (λ c. search (needs, compressed)))

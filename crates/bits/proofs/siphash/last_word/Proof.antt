@@ -1,14 +1,9 @@
 -- `bits::siphash::last_word` meets its contract: null bytes are what a list reads past its end.
 -- Assumes nothing.
 use borrow.Author.Needs.{needs}
-use Rattle.bits.specs.Bytes.{number, lowNumber}
-use Rattle.bits.proofs.SipLaws.{last-word}
+use Rattle.bits.proofs.SipLaws.{last-joined}
 use Rattle.bits.proofs.siphash.last_word.Statement.{statement}
 use Rattle.bits.proofs.siphash.last_word.Tie as tie
-
-returns : tie.Need-returns
-unfolding number lowNumber
-returns c = rw last-word (cc)
 
 pub last-word-spec : {M : Type 1} → statement M
 last-word-spec =
@@ -27,4 +22,4 @@ last-word-spec =
     (λ c κs. search needs)
     (λ c κs. search needs)
     (λ c κs. search needs)
-    returns)
+    (λ c. search (needs, last-joined)))

@@ -1,12 +1,9 @@
 -- `bits::siphash::siphash` meets its contract: the whole words go in, then the last.
 -- Assumes nothing.
 use borrow.Author.Needs.{needs}
-use Rattle.bits.proofs.SipLaws.{hashed}
+use Rattle.bits.proofs.SipLaws.{hashed-by}
 use Rattle.bits.proofs.siphash.siphash.Statement.{statement}
 use Rattle.bits.proofs.siphash.siphash.Tie as tie
-
-returns : tie.Need-returns
-returns c = rw hashed (cc)
 
 pub siphash-spec : {M : Type 1} → statement M
 siphash-spec =
@@ -17,4 +14,4 @@ siphash-spec =
     (λ c κs. search needs)
     (λ c κs. search needs)
     (λ c κs. search needs)
-    returns)
+    (λ c. search (needs, hashed-by)))

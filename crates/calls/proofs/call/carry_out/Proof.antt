@@ -1,7 +1,8 @@
 -- `calls::call::carry_out` meets its contract: the state's words, one step, and the words of state and answer.
 -- Assumes nothing.
+use native.Mathlib.Omega.{arith}
 use borrow.Author.Needs.{needs}
-use Rattle.interface.proofs.CallLaws.{step-carried}
+use Rattle.interface.proofs.CallLaws.{step-carried, stored-state}
 use Rattle.calls.proofs.call.carry_out.Statement.{statement}
 use Rattle.calls.proofs.call.carry_out.Tie as tie
 
@@ -13,6 +14,7 @@ carry-out-spec =
     (λ c κs. search needs)
     (λ c κs. search needs)
     (λ c κs. search needs)
+    (λ c κs. c .before .before .before .before .before .before .before .before .before .before .before .before .before .before .before .before .before .before .before .before .before .before .before .before .before .pre .1)
     (λ c. search needs)
     (λ c. search needs)
     (λ c. search needs)
@@ -22,6 +24,9 @@ carry-out-spec =
     let w = c .before .before in
     let s = w .before .before .before .before in
     let r = s .before .before .before .before .before .before .before .before .before in
-    let e = r .before .before .before .before in
-    let a = e .before .before .before .before .before .before .before .before .args in
-    step-carried _ _ _ _ _ (a .answer .now) (e .read-state .result) (r .serve .result) _ _ _ _ _ _ (e .read-state .ensures) (r .serve .ensures) (s .write-state .ensures) (w .write-answer .ensures)))
+    let l = r .before .before .before .before in
+    let e = l .before in
+    let f = e .before .before .before .before .before .before .before .before in
+    let a = f .args in
+    let kept = stored-state (l .leaves .result) _ (a .state .now) _ _ _ (e .read-state .result) (r .serve .result) _ _ _ _ (λ i. omega (arith, e .before .before .before .before .before .before .before .slice-known .given i)) (f .pre .0) (e .read-state .ensures) (r .serve .ensures) (λ h σ b. l .leaves .ensures h σ b _) (s .put-state .ensures) in
+    step-carried _ _ _ _ _ (a .answer .now) (e .read-state .result) (r .serve .result) _ _ _ _ _ _ (e .read-state .ensures) (r .serve .ensures) kept (w .write-answer .ensures)))

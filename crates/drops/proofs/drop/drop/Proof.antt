@@ -1,6 +1,6 @@
 -- `drops::drop::drop` meets its contract: it is decided by its verdict.
 -- Assumes nothing.
-use mathlib.Core.Path.{_≡_}
+use mathlib.Core.Path.{_≡_, refl}
 use mathlib.Core.List.{[]}
 use borrow.Author.Needs.{needs}
 use lib.ListN.{length}
@@ -12,6 +12,7 @@ use Rattle.machine.specs.Requests.{release}
 use Rattle.rulings.specs.Rulings.{verdictOn}
 use Rattle.table.specs.States.{stateAs}
 use Rattle.rulings.proofs.RulingLaws.{decided-pass, decided-stop}
+use Rattle.rulings.proofs.ServedLaws.{served-quiet}
 use Rattle.drops.proofs.drop.drop.Statement.{statement}
 use Rattle.drops.proofs.drop.drop.Tie as tie
 
@@ -32,8 +33,8 @@ drop-spec =
     (λ c. search needs)
     (λ c κs. (c .before .before .before .before .before .before .read .ensures, known (c .before .before .before .before) _ (c .before .before .r2 .given .1)))
     (λ c. search needs)
-    (λ c. decided-stop _ _ _ _ _ _ _ (c .refused .ensures) (known (c .before .before .before .before) _ (c .before .before .r .given .1)))
+    (λ c. served-quiet refl (λ b. refl) (λ b. refl) refl (decided-stop _ _ _ _ _ _ _ (c .refused .ensures) (known (c .before .before .before .before) _ (c .before .before .r .given .1))))
     (λ c. search needs)
     (λ c.
     let g = c .before .before in
-    decided-pass _ _ _ _ _ _ (g .grant-drop .ensures) (known (g .before .before .before .before .before) _ (g .before .before .before .r2 .given .1) .0)))
+    served-quiet refl (λ b. refl) (λ b. refl) refl (decided-pass _ _ _ _ _ _ (g .grant-drop .ensures) (known (g .before .before .before .before .before) _ (g .before .before .before .r2 .given .1) .0))))

@@ -33,8 +33,8 @@ dump-token-spec =
     (λ c. search needs)
     (λ c. search needs)
     (λ c κs. (c .before .before .before .before .pre, there (c .before .before) _ (c .enum-told .given .1)))
-    (λ c s φ b long j ok. token-stops _ s _ _ b ok (dump-token _ _ _ _ _ φ _ (token (c .before .before .before) _ (c .before .r .given .1) φ j)))
-    (λ c s φ b long j ok.
+    (λ c s φ b j ok. token-stops _ s _ _ b ok (dump-token _ _ _ _ _ φ _ (token (c .before .before .before) _ (c .before .r .given .1) φ j)))
+    (λ c s φ b j ok.
     let l = c .before .before .before in
     let a = l .before .before .args in
-    rw (dump-rest _ _ _ _ _ φ _ ok (token l _ (c .before .enum-told .given .1) φ j .0)) (c .dump-rest .ensures (a .memory) (a .task) s φ b long)))
+    rw (dump-rest _ _ _ _ _ φ _ ok (token l _ (c .before .enum-told .given .1) φ j .0)) (c .dump-rest .ensures (a .memory) (a .task) s φ b)))

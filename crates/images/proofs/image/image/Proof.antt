@@ -1,7 +1,6 @@
--- `images::image::image` meets its contract: a load leaves the buffer, and a dump memory.
+-- `images::image::image` meets its contract: each does what its own function does.
 -- Assumes nothing.
 use borrow.Author.Needs.{needs}
-use Rattle.images.proofs.ImageLaws.{dump-memory, load-buffer}
 use Rattle.images.proofs.image.image.Statement.{statement}
 use Rattle.images.proofs.image.image.Tie as tie
 
@@ -15,7 +14,7 @@ image-spec =
     (λ c κs. search needs)
     (λ c. search needs)
     (λ c. search needs)
-    (λ c. let l = c .before .before in rw (l .before .before .before .enum-told .given .1) (l .load-image .ensures .0, (l .load-image .ensures .1, load-buffer _ _ _ _ _ _ _ _)))
+    (λ c. let l = c .before .before in rw (l .before .before .before .enum-told .given .1) (l .load-image .ensures))
     (λ c. search needs)
     (λ c. search needs)
-    (λ c. let d = c .before .before in rw (d .before .before .before .enum-told2 .given .1) (d .dump-image .ensures .0, (dump-memory _ _ _ _ _ _ _ _, d .dump-image .ensures .1))))
+    (λ c. let d = c .before .before in rw (d .before .before .before .enum-told2 .given .1) (d .dump-image .ensures)))

@@ -8,10 +8,10 @@ use Rattle.machine.specs.Requests as request
 use Rattle.checks.specs.Shifts.{shiftAs}
 use Rattle.table.specs.States.{stateAs}
 use Rattle.rulings.specs.Rulings.{verdictOn}
-use Rattle.rulings.proofs.RulingLaws.{effect-stop}
+use Rattle.rulings.proofs.ServedLaws.{served, served-stop}
 use Rattle.images.specs.Segments.{Lies}
 use Rattle.images.specs.declared.segment.Segment.{Segment}
-use Rattle.images.proofs.ImageLaws.{load-effect, load-fits, load-room}
+use Rattle.images.proofs.ImageLaws.{load-buffer, load-effect, load-fits, load-handed, load-room}
 use Rattle.images.proofs.load.load_image.Statement.{statement}
 use Rattle.images.proofs.load.load_image.Tie as tie
 
@@ -30,10 +30,8 @@ load-image-spec =
     (λ c. search needs)
     (λ c. search needs)
     (λ c κs. let q = checked (c .before .before .before .before) _ (c .before .before .r2 .given .1) in rw (q .1 .0, q .1 .1) (load-room _ _ _ _ _ _ _ (q .0), load-fits _ _ _ _ _ _ _ (q .0)))
-    (λ c.
-    let v = checked (c .before .before .before) _ (c .before .r .given .1) in
-    (v, rw (effect-stop _ _ _ _ _ v)))
+    (λ c. served-stop _ refl (checked (c .before .before .before) _ (c .before .r .given .1)))
     (λ c. search needs)
     (λ c.
     let q = checked (c .before .before .before .before .before .before .before) _ (c .before .before .before .before .before .r2 .given .1) in
-    ((q .0, refl), rw (load-effect _ _ _ _ _ _ _ (q .0)) (rw (q .1 .0) at (c .before .before .store-image .ensures)))))
+    served refl (load-handed _ _ _ _ _ _ _ (q .0)) (rw (load-effect _ _ _ _ _ _ _ (q .0)) (rw (q .1 .0) at (c .before .before .store-image .ensures))) (load-buffer _ _ _ _ _ _ _ _)))

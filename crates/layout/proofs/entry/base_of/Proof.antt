@@ -13,7 +13,6 @@ base-of-spec =
     tie.close
     (tie.spec
     (λ c. search needs)
-    (λ c. search needs)
     (λ c. ap (λ (e : Entry). e .base) (direct-at (c .before .before .before .args .w) (search needs) (c .match .keys1)))
     (λ c. ap (λ (e : Entry). e .base) (indirect-at (c .before .before .before .args .w) (search needs) (c .match .keys2)))
     (λ c. no-base-at (c .before .before .before .args .w) (search needs) (c .match .rest .0 .1) (c .match .rest .1) .0))

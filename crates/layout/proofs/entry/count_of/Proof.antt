@@ -14,8 +14,6 @@ count-of-spec =
     (tie.spec
     (λ c. search needs)
     (λ c. search needs)
-    (λ c. search needs)
-    (λ c. search needs)
     (λ c. ap (λ (e : Entry). e .count) (direct-at (c .before .before .before .args .w) (search needs) (c .before .match .keys1)))
     (λ c. ap (λ (e : Entry). e .count) (indirect-at (c .before .before .before .args .w) (search needs) (c .before .match .keys2)))
     (λ c. no-base-at (c .before .before .args .w) (search needs) (c .match .rest .0 .1) (c .match .rest .1) .1))

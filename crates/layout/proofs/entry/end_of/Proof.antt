@@ -6,4 +6,4 @@ use Rattle.layout.proofs.entry.end_of.Statement.{statement}
 use Rattle.layout.proofs.entry.end_of.Tie as tie
 
 pub end-of-spec : {M : Type 1} → statement M
-end-of-spec = tie.close (tie.spec (λ c. search needs) (λ c. search needs) (λ c. search needs) (λ c. search needs) (λ c. search needs) (λ c. cc (div-one (c .args .d))))
+end-of-spec = tie.close (tie.spec (λ c. search needs) (λ c. search needs) (λ c. search needs) (λ c. cc (div-one (c .args .d))))

@@ -8,4 +8,4 @@ use Rattle.layout.proofs.entry.tag_of.Statement.{statement}
 use Rattle.layout.proofs.entry.tag_of.Tie as tie
 
 pub tag-of-spec : {M : Type 1} → statement M
-tag-of-spec = tie.close (tie.spec (λ c. search needs) (λ c. search needs) (λ c. ap (λ (e : Entry). e .tag) (shared-read (c .before .args .w) (search needs))))
+tag-of-spec = tie.close (tie.spec (λ c. search needs) (λ c. ap (λ (e : Entry). e .tag) (shared-read (c .before .args .w) (search needs))))

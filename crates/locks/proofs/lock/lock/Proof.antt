@@ -1,6 +1,6 @@
 -- `locks::lock::lock` meets its contract: it is decided by its verdict, and the owner gets the lock.
 -- Assumes nothing.
-use mathlib.Core.Path.{_≡_}
+use mathlib.Core.Path.{_≡_, refl}
 use mathlib.Core.List.{[]}
 use lib.ListN.{length}
 use borrow.Author.Needs.{needs}
@@ -13,6 +13,7 @@ use Rattle.table.specs.States.{stateAs}
 use Rattle.rulings.specs.Rulings.{verdictOn}
 use Rattle.locks.proofs.LockLaws.{lock-grants, lock-task}
 use Rattle.rulings.proofs.RulingLaws.{decided-pass, decided-stop}
+use Rattle.rulings.proofs.ServedLaws.{served-quiet}
 use Rattle.locks.proofs.lock.lock.Statement.{statement}
 use Rattle.locks.proofs.lock.lock.Tie as tie
 
@@ -33,9 +34,9 @@ lock-spec =
     (λ c. search needs)
     (λ c κs. (known (c .before .before .before .before) _ (c .before .before .r2 .given .1) .1 .1, lock-task _ _ _ _ _ (known (c .before .before .before .before) _ (c .before .before .r2 .given .1) .0)))
     (λ c. search needs)
-    (λ c. decided-stop _ _ _ _ _ _ _ (c .refused .ensures) (known (c .before .before .before .before) _ (c .before .before .r .given .1)))
+    (λ c. served-quiet refl (λ b. refl) (λ b. refl) refl (decided-stop _ _ _ _ _ _ _ (c .refused .ensures) (known (c .before .before .before .before) _ (c .before .before .r .given .1))))
     (λ c. search needs)
     (λ c.
     let g = c .before .before in
     let k = known (g .before .before .before .before .before) _ (g .before .before .before .r2 .given .1) in
-    decided-pass _ _ _ _ _ _ (lock-grants _ _ _ _ _ _ (k .1 .0) _ (g .relock-at .ensures)) (k .0)))
+    served-quiet refl (λ b. refl) (λ b. refl) refl (decided-pass _ _ _ _ _ _ (lock-grants _ _ _ _ _ _ (k .1 .0) _ (g .relock-at .ensures)) (k .0))))

@@ -1,6 +1,6 @@
 -- `locks::lock::unlock` meets its contract: it is decided by its verdict, and the owner gets the lock.
 -- Assumes nothing.
-use mathlib.Core.Path.{_≡_}
+use mathlib.Core.Path.{_≡_, refl}
 use mathlib.Core.List.{[]}
 use native.Mathlib.Omega.{arith}
 use lib.ListN.{length}
@@ -14,6 +14,7 @@ use Rattle.table.specs.States.{stateAs}
 use Rattle.rulings.specs.Rulings.{verdictOn}
 use Rattle.locks.proofs.LockLaws.{unlock-grants}
 use Rattle.rulings.proofs.RulingLaws.{decided-pass, decided-stop}
+use Rattle.rulings.proofs.ServedLaws.{served-quiet}
 use Rattle.locks.proofs.lock.unlock.Statement.{statement}
 use Rattle.locks.proofs.lock.unlock.Tie as tie
 
@@ -34,9 +35,9 @@ unlock-spec =
     (λ c. search needs)
     (λ c κs. (known (c .before .before .before .before) _ (c .before .before .r2 .given .1) .1 .1, omega arith))
     (λ c. search needs)
-    (λ c. decided-stop _ _ _ _ _ _ _ (c .refused .ensures) (known (c .before .before .before .before) _ (c .before .before .r .given .1)))
+    (λ c. served-quiet refl (λ b. refl) (λ b. refl) refl (decided-stop _ _ _ _ _ _ _ (c .refused .ensures) (known (c .before .before .before .before) _ (c .before .before .r .given .1))))
     (λ c. search needs)
     (λ c.
     let g = c .before .before in
     let k = known (g .before .before .before .before .before) _ (g .before .before .before .r2 .given .1) in
-    decided-pass _ _ _ _ _ _ (unlock-grants _ _ _ _ _ _ (k .1 .0) _ (g .relock-at .ensures)) (k .0)))
+    served-quiet refl (λ b. refl) (λ b. refl) refl (decided-pass _ _ _ _ _ _ (unlock-grants _ _ _ _ _ _ (k .1 .0) _ (g .relock-at .ensures)) (k .0))))

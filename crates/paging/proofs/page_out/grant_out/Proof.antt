@@ -7,7 +7,7 @@ use lib.ListN.{length}
 use Rattle.entering.specs.Nonces.{Issuable}
 use Rattle.layout.specs.Entry.{entryOf, laidDirect, laidPaged, wordsNumber}
 use Rattle.table.specs.States.{stateAs}
-use Rattle.paging.proofs.OutLaws.{Idle, idle, out-clears, out-fills, out-grants, out-in, out-spent, out-stays}
+use Rattle.paging.proofs.OutLaws.{Idle, idle, out-clears, out-fills, out-grants, out-in, out-spent, out-stays, Sends}
 use Rattle.paging.proofs.page_out.grant_out.Statement.{statement}
 use Rattle.paging.proofs.page_out.grant_out.Tie as tie
 
@@ -28,6 +28,27 @@ fresh : (c : tie.After-issued-direct)
     → let a = c .before .before .before .before .before .before .before .before .args in
     Issuable (a .table .now) (a .new) (entryOf (wordsNumber (c .issued-direct .result)))
 fresh c = let a = c .before .before .before .before .before .before .before .before in record { inside = rw (a .pre .1) (pass (c .before .before) .new .0); laid = rw (c .issued-direct .ensures) (laidDirect refl) }
+
+-- what is sent out, and the nonces for it
+sends : (c : tie.After-find-two)
+    → let d = c .before .before in
+    let e = d .before .before in
+    let r = e .before .before in
+    let a = r .before .before .before .before .args in
+    Sends (a .s) (a .table .now) (a .token) (a .page) (r .read .result) (e .entry-at .result) (wordsNumber (d .before .issued-paged .result)) (wordsNumber (d .issued-direct .result)) (a .new) (c .find-two .result)
+sends c =
+    let d = c .before .before in
+    let e = d .before .before in
+    let r = e .before .before in
+    record {
+      is = r .read .ensures;
+      there = e .entry-at .ensures;
+      full = pass e .full;
+      paged = d .before .issued-paged .ensures;
+      anew = d .issued-direct .ensures;
+      number = r .before .before .before .before .pre .1;
+      found = c .find-two .ensures;
+    }
 
 pub grant-out-spec : {M : Type 1} → statement M
 grant-out-spec =
@@ -60,28 +81,13 @@ grant-out-spec =
     let k = c .before .before .before .before .before in
     let b = k .before .before .before .before .before .before .before in
     let f = b .before .before .before .before .before in
-    let d = f .before .before in
-    let o = d .before in
-    let e = o .before in
-    let r = e .before .before in
-    let a = r .before .before .before .before in
     let left = b .before .before .if1 .taken in (
-      out-grants _ _ _ _ _ _ _ _ _ _ _ (r .read .ensures) (e .entry-at .ensures) (pass e .full) (o .issued-paged .ensures) (d .issued-direct .ensures) (a .pre .1) (f .find-two .ensures) left (b .reissue-and-give .result) _ _ (b .reissue-and-give .ensures) (c .giving-two .ensures),
-      (
-        out-clears _ _ _ _ _ _ _ _ _ _ _ (r .read .ensures) (e .entry-at .ensures) (pass e .full) (o .issued-paged .ensures) (d .issued-direct .ensures) (a .pre .1) (f .find-two .ensures) left _ _ (k .carry-out .ensures .0),
-        out-fills _ _ _ _ _ _ _ _ _ _ _ (r .read .ensures) (e .entry-at .ensures) (pass e .full) (o .issued-paged .ensures) (d .issued-direct .ensures) (a .pre .1) (f .find-two .ensures) left _ _ _ (k .carry-out .ensures .1),
-      ),
+      out-grants (sends f) _ left (b .reissue-and-give .result) _ _ (b .reissue-and-give .ensures) (c .giving-two .ensures),
+      (out-clears (sends f) _ left _ _ (k .carry-out .ensures .0), out-fills (sends f) _ left _ _ _ (k .carry-out .ensures .1)),
     ))
     (λ c. search needs)
     (λ c.
     let f = c .before .before .before .before in
-    let d = f .before .before in
-    let o = d .before in
-    let e = o .before in
-    let r = e .before .before in
-    let a = r .before .before .before .before in
     let none = c .before .if1 .left in
-    let stays = out-stays _ _ _ _ (a .args .encoding) _ _ _ _ _ _ (r .read .ensures) (e .entry-at .ensures) (pass e .full) (o .issued-paged .ensures) (d .issued-direct .ensures) (a .pre .1) (f .find-two .ensures) none in (
-      out-spent _ _ _ _ _ _ _ _ _ _ _ (r .read .ensures) (e .entry-at .ensures) (pass e .full) (o .issued-paged .ensures) (d .issued-direct .ensures) (a .pre .1) (f .find-two .ensures) none _ (c .refused .ensures),
-      (rw stays, rw stays),
-    )))
+    let stays = out-stays (sends f) (f .before .before .before .before .before .before .before .before .before .before .args .encoding) none in
+    (out-spent (sends f) _ none _ (c .refused .ensures), (rw stays, rw stays))))

@@ -1,6 +1,6 @@
 -- `paging::page_out::page_out` meets its contract: it is decided by its verdict, and so is what it does to memory and buffer.
 -- Assumes nothing.
-use mathlib.Core.Path.{_≡_}
+use mathlib.Core.Path.{_≡_, refl}
 use lib.ListN.{length}
 use borrow.Author.Needs.{needs}
 use Rattle.machine.specs.Requests as request
@@ -8,7 +8,8 @@ use Rattle.table.specs.States.{stateAs}
 use Rattle.rulings.specs.Allotments.{Allots}
 use Rattle.rulings.specs.Rulings.{frontOn}
 use Rattle.rulings.specs.declared.allot.Allotted.{Allotted}
-use Rattle.rulings.proofs.RulingLaws.{decided-stop, effect-stop, front-decided, front-effect, front-stop}
+use Rattle.rulings.proofs.RulingLaws.{front-decided, front-effect, front-stop}
+use Rattle.rulings.proofs.ServedLaws.{served, served-stop}
 use Rattle.paging.proofs.page_out.page_out.Statement.{statement}
 use Rattle.paging.proofs.page_out.page_out.Tie as tie
 
@@ -31,7 +32,7 @@ page-out-spec =
     (λ c. search needs)
     (λ c.
     let v = front-stop _ _ _ _ _ (checked (c .before .before .before .before) _ (c .before .before .r .given .1)) in
-    (decided-stop _ _ _ _ _ _ _ (c .refused .ensures) v, (rw (effect-stop _ _ _ _ _ v), rw (effect-stop _ _ _ _ _ v))))
+    served-stop _ (c .refused .ensures) v)
     (λ c. search needs)
     (λ c. search needs)
     (λ c. search needs)
@@ -39,4 +40,4 @@ page-out-spec =
     let g = c .before .before .before .before .before .before in
     let r = g .before .before .before .before .before in
     let v = checked (r .before .before) _ (r .r2 .given .1) .0 in
-    (front-decided _ _ _ _ _ v _ (g .grant-out .ensures .0), (rw (front-effect _ _ _ _ _ v) (g .grant-out .ensures .1 .0), rw (front-effect _ _ _ _ _ v) (g .grant-out .ensures .1 .1)))))
+    served refl (front-decided _ _ _ _ _ v _ (g .grant-out .ensures .0)) (rw (front-effect _ _ _ _ _ v) (g .grant-out .ensures .1 .0)) (rw (front-effect _ _ _ _ _ v) (g .grant-out .ensures .1 .1))))

@@ -1,0 +1,3 @@
+pub mod Above
+pub mod Examples
+pub mod Recorded

@@ -1,0 +1,2 @@
+// Any request, served.
+pub mod serve;
