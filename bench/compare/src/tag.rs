@@ -5,19 +5,28 @@ use std::hash::Hasher;
 
 use session::entry::{Entry, NONCE, SIZE, TAG};
 
-/// The tag that an issue of an entry with this nonce gives.
-pub fn issued(entry: &Entry, key: [u64; 2], number: usize, nonce: u64) -> u64 {
-    let hashed = entry.with(TAG, 0).with(NONCE, nonce);
-    siphash(key, &hashed.0, number as u64) & 0xFFFF
+/// What an issue hashes: the entry with its nonce and without a tag, then the number.
+#[derive(Clone, Copy, Debug)]
+pub struct Issue([u8; SIZE + 8]);
+
+impl Issue {
+    pub fn of(entry: &Entry, number: usize, nonce: u64) -> Issue {
+        let mut hashed = [0; SIZE + 8];
+        hashed[..SIZE].copy_from_slice(&entry.with(TAG, 0).with(NONCE, nonce).0);
+        hashed[SIZE..].copy_from_slice(&(number as u64).to_le_bytes());
+        Issue(hashed)
+    }
+
+    /// The tag that it gives under a key: of SipHash-2-4, by the standard library.
+    #[allow(deprecated)]
+    pub fn tag(&self, key: [u64; 2]) -> u64 {
+        let mut hasher = std::hash::SipHasher::new_with_keys(key[0], key[1]);
+        hasher.write(&self.0);
+        hasher.finish() & 0xFFFF
+    }
 }
 
-/// SipHash-2-4 over an entry and its number, by the standard library.
-#[allow(deprecated)]
-fn siphash(key: [u64; 2], entry: &[u8; SIZE], number: u64) -> u64 {
-    let mut message = [0; SIZE + 8];
-    message[..SIZE].copy_from_slice(entry);
-    message[SIZE..].copy_from_slice(&number.to_le_bytes());
-    let mut hasher = std::hash::SipHasher::new_with_keys(key[0], key[1]);
-    hasher.write(&message);
-    hasher.finish()
+/// The tag that an issue of an entry with this nonce gives.
+pub fn issued(entry: &Entry, key: [u64; 2], number: usize, nonce: u64) -> u64 {
+    Issue::of(entry, number, nonce).tag(key)
 }

@@ -1,7 +1,7 @@
-//! Seeded faults: each edit of bench/faults is made in a copy of the model, which is built into a
-//! library, loaded and compared with the proved code. Each must be found soon, whatever the seed, and
-//! with the first seed shrunk to fewer than six requests. The sessions are left in bench/target/faults.
-//! With `--nocapture` it prints how soon each was found.
+//! Seeded faults: each edit of bench/faults is made in a copy of the model; some of these are built into
+//! a library, which is loaded, and each is compared with the proved code. Each must be found soon,
+//! whatever the seed, and with the first seed shrunk to fewer than six requests. The sessions are left in
+//! bench/target/faults. With `--nocapture` it prints how soon each was found.
 
 #[path = "faults/machine.rs"]
 mod machine;
@@ -89,32 +89,59 @@ fn edited(name: &str, text: &str, edits: &[&Edit]) -> String {
     text
 }
 
-/// Copies the model's sources with the edits made, and with the function for C.
+/// How many faults are built at once: the compiler's start and the linker's work are theirs together.
+const TOGETHER: usize = 8;
+
+/// The name of a fault's copy of the model, as a module.
+fn module(name: &str) -> String {
+    name.replace('-', "_")
+}
+
+/// Copies the model's sources with the edits made, and with the function for C, as a module.
 fn copy(name: &str, folder: &Path) {
     let edits = edits(name);
     assert!(!edits.is_empty(), "{name}: no edit");
-    fs::create_dir_all(folder.join("src")).expect("a folder for the copy");
+    let (module, own) = (module(name), folder.join(module(name)));
+    fs::create_dir_all(&own).expect("a folder for the copy");
+    let write = |file: &str, text: &str| {
+        let text = text.replace("crate::", &format!("crate::{module}::"));
+        fs::write(own.join(file), text).expect("a copied source");
+    };
     for file in fs::read_dir(bench().join("model/src")).expect("the model's sources") {
         let path = file.expect("a source").path();
-        let file = format!("src/{}", path.file_name().unwrap().to_string_lossy());
-        let here: Vec<&Edit> = edits.iter().filter(|edit| edit.file == file).collect();
-        let text = fs::read_to_string(&path).expect("a source");
-        let more = if file == "src/lib.rs" { "\npub mod loaded;\n" } else { "" };
-        let text = edited(name, &text, &here) + more;
-        fs::write(folder.join(&file), text).expect("a copied source");
+        let file = path.file_name().unwrap().to_string_lossy();
+        let place = format!("src/{file}");
+        let here: Vec<&Edit> = edits.iter().filter(|edit| edit.file == place).collect();
+        let text = edited(name, &fs::read_to_string(&path).expect("a source"), &here);
+        match &*file {
+            "lib.rs" => write("mod.rs", &(text + "\nmod loaded;\n")),
+            file => write(file, &text),
+        }
     }
-    fs::write(folder.join("src/loaded.rs"), include_str!("faults/loaded.rs")).expect("a source");
+    let function = include_str!("faults/loaded.rs").replace("serve_loaded", &function(name));
+    write("loaded.rs", &function);
 }
 
-/// Builds the copy into a library, in one run of the compiler.
-fn build(name: &str, folder: &Path) {
+/// The name of a copy's function for C.
+fn function(name: &str) -> String {
+    format!("serve_{}", module(name))
+}
+
+/// Builds faults into a library, in one run of the compiler. It answers few requests, and is not
+/// optimised: that would take three times as long.
+fn build(names: &[String]) -> PathBuf {
+    let folder = target().join(&names[0]);
+    names.iter().for_each(|name| copy(name, &folder));
+    let modules: String = names.iter().map(|name| format!("mod {};\n", module(name))).collect();
+    fs::write(folder.join("lib.rs"), modules).expect("a source");
     let compiler = env::var("RUSTC").unwrap_or("rustc".to_string());
     let mut command = Command::new(compiler);
     command.args(["--edition", "2021", "--cap-lints", "allow", "--crate-type", "cdylib"]);
-    command.args(["-C", "opt-level=1", "-C", "codegen-units=1"]);
-    command.args(["--crate-name", "faulty", "-o", LIBRARY, "src/lib.rs"]);
-    let built = command.current_dir(folder).output().expect("rustc");
-    assert!(built.status.success(), "{name}: {}", String::from_utf8_lossy(&built.stderr));
+    command.args(["-C", "debug-assertions=off", "-C", "codegen-units=1"]);
+    command.args(["--crate-name", "faulty", "-o", LIBRARY, "lib.rs"]);
+    let built = command.current_dir(&folder).output().expect("rustc");
+    assert!(built.status.success(), "{}", String::from_utf8_lossy(&built.stderr));
+    folder.join(LIBRARY)
 }
 
 const LIBRARY: &str = "libfaulty.so";
@@ -128,23 +155,21 @@ struct Seen {
     shrunk: usize,
 }
 
-fn find(name: &str) -> Seen {
-    let folder = target().join(name);
-    copy(name, &folder);
-    build(name, &folder);
-    let outcomes: Vec<Outcome> = SEEDS.map(|seed| found(name, &folder, seed)).collect();
+fn find(name: &str, library: &Path) -> Seen {
+    let outcomes: Vec<Outcome> = SEEDS.map(|seed| found(name, library, seed)).collect();
     let first = &outcomes[0];
-    fs::write(folder.join("found.txt"), first.to_string()).expect("a place for the session");
+    let session = target().join(format!("{name}.session"));
+    fs::write(session, first.to_string()).expect("a place for the session");
     let shrunk = first.found.as_ref().map_or(0, |found| found.session.steps.len());
     let requests = outcomes.iter().map(|outcome| outcome.requests).collect();
     Seen { name: name.to_string(), requests, shrunk }
 }
 
 /// The fault found with a seed; with the first one it is shrunk.
-fn found(name: &str, folder: &Path, seed: u64) -> Outcome {
+fn found(name: &str, library: &Path, seed: u64) -> Outcome {
     let (requests, shrink) = (REQUESTS, seed == *SEEDS.start());
     let options = Options { requests, seed, shrink, ..Options::default() };
-    let faulty = Loaded::new(&folder.join(LIBRARY));
+    let faulty = Loaded::new(library, &function(name));
     let pair = Pair::new(Box::new(Proved::new()), Box::new(faulty));
     let outcome = compare(&options, pair).expect("a run");
     assert!(outcome.found.is_some(), "{name} was not found with seed {seed}");
@@ -157,20 +182,28 @@ struct Work {
     at_hand: BTreeSet<String>,
 }
 
-/// Takes the next fault in hand.
-fn take(work: &Mutex<Work>) -> Option<String> {
+/// Takes the next faults in hand.
+fn take(work: &Mutex<Work>) -> Vec<String> {
     let mut work = work.lock().expect("the faults");
-    let name = work.left.pop()?;
-    work.at_hand.insert(name.clone());
-    Some(name)
+    let rest = work.left.len().saturating_sub(TOGETHER);
+    let names = work.left.split_off(rest);
+    work.at_hand.extend(names.clone());
+    names
 }
 
-/// Finds the faults that are left, one after the other.
+/// Finds the faults that are left, some at a time.
 fn find_left(work: &Mutex<Work>, all: &mpsc::Sender<Seen>) {
-    while let Some(name) = take(work) {
-        let seen = find(&name);
-        work.lock().expect("the faults").at_hand.remove(&name);
-        all.send(seen).expect("one who waits for it");
+    loop {
+        let names = take(work);
+        if names.is_empty() {
+            return;
+        }
+        let library = build(&names);
+        for name in names {
+            let seen = find(&name, &library);
+            work.lock().expect("the faults").at_hand.remove(&name);
+            all.send(seen).expect("one who waits for it");
+        }
     }
 }
 

@@ -219,8 +219,9 @@ impl Entry {
         let (index, shift) = (from / 64, 128 - from % 64 - width);
         let mask = (u128::MAX >> (128 - width)) << shift;
         let both = self.words(index) & !mask | (u128::from(value) << shift) & mask;
-        for (place, byte) in self.0.iter_mut().skip(8 * index).zip(both.to_be_bytes()) {
-            *place = byte;
+        let words = self.0.as_chunks_mut::<8>().0.iter_mut().skip(index);
+        for (word, part) in words.zip([both >> 64, both]) {
+            *word = (part as u64).to_be_bytes();
         }
         self
     }

@@ -42,8 +42,9 @@ pub fn child(player: &Player, parent: usize, tag: u64) -> Option<Words> {
     let number = free::next(player.table(), state.last_number)?;
     let (base, whole, link) = (above.get(entry::BASE), above.length(), above.token(parent, 1));
     let parts = (1..whole).flat_map(|length| (0..whole - length).map(move |at| (at, length)));
+    let child = Entry::indirect(base, whole, link);
     let (second, length) = parts.into_iter().find(|(offset, length)| {
-        let child = Entry::indirect(base + offset, *length, link);
+        let child = child.with(entry::BASE, base + offset).with_length(*length);
         tag::issued(&child, state.key, number, state.next_nonce) == tag
     })?;
     let (operation, token) = (Operation::Derive as u64, above.token(parent, 0));

@@ -10,7 +10,8 @@ use session::{Step, World};
 use super::found;
 use crate::limits::SPENT;
 use crate::player::Player;
-use crate::{free, tag, wild, worlds};
+use crate::tag::Issue;
+use crate::{free, wild, worlds};
 
 const MEMORY: u64 = 64;
 const ENTRIES: usize = 4;
@@ -253,9 +254,9 @@ fn twice(player: &mut Player, way: Way, spare: Option<u64>) {
     let mut scene = scene(player, way, next_nonce(way, spare));
     if let Some((number, entry)) = scene.issued().get(way.place()) {
         let nonce = entry.get(entry::NONCE);
-        let tag = |key, nonce| tag::issued(entry, key, *number, nonce);
+        let [one, two] = [nonce, nonce + 1].map(|nonce| Issue::of(entry, *number, nonce));
         let key = scene.world.state.key;
-        scene.world.state.key = found::key(key, |key| tag(key, nonce) == tag(key, nonce + 1));
+        scene.world.state.key = found::key(key, |key| one.tag(key) == two.tag(key));
         scene.plant(way.place());
     }
     scene.ask(player);
@@ -277,9 +278,8 @@ fn never_used(player: &mut Player, ways: &[Way]) {
         let scene = Scene { world, request, buffer, segments: [0, 0] };
         let issued = scene.issued();
         let Some((number, entry)) = issued.get(way.place()) else { return };
-        let nonce = entry.get(entry::NONCE);
-        let key = scene.world.state.key;
-        let key = found::key(key, |key| tag::issued(entry, key, *number, nonce) == 0);
+        let issue = Issue::of(entry, *number, entry.get(entry::NONCE));
+        let key = found::key(scene.world.state.key, |key| issue.tag(key) == 0);
         player.begin(worlds::zeros(2, MEMORY));
         player.reset(key, scene.world.state.next_nonce);
         player.ask_with(request, scene.buffer.clone());
@@ -293,11 +293,12 @@ fn alike(player: &mut Player) {
         return;
     }
     let mut scene = scene(player, Way::Part, next_nonce(Way::Part, Some(0)));
-    if let [(one, part), (two, rest)] = scene.issued()[..] {
-        let tag =
-            |key, entry: &Entry, number| tag::issued(entry, key, number, entry.get(entry::NONCE));
+    if let [part, rest] = scene.issued()[..] {
+        let issue =
+            |(number, entry): (usize, Entry)| Issue::of(&entry, number, entry.get(entry::NONCE));
+        let [part, rest] = [part, rest].map(issue);
         let key = scene.world.state.key;
-        scene.world.state.key = found::key(key, |key| tag(key, &part, one) == tag(key, &rest, two));
+        scene.world.state.key = found::key(key, |key| part.tag(key) == rest.tag(key));
     }
     scene.ask(player);
 }
@@ -319,10 +320,10 @@ fn after_reset(player: &mut Player) {
         }
         // The first create uses two.
         let first = spare.map_or(1, |_| next_nonce(way, spare) - 2);
-        let tag =
-            |key, (entry, behind): (Entry, u64)| tag::issued(&entry, key, number, first + behind);
+        let issue = |(entry, behind): (Entry, u64)| Issue::of(&entry, number, first + behind);
+        let [early, late] = [early, late].map(issue);
         let any = worlds::key(player);
-        let key = found::key(any, |key| tag(key, early) == tag(key, late));
+        let key = found::key(any, |key| early.tag(key) == late.tag(key));
         player.begin(worlds::zeros(3, MEMORY));
         player.reset(key, first);
         let made = player.create(0, 16, 7);

@@ -6,7 +6,8 @@ use session::entry::Entry;
 
 use super::found;
 use crate::player::Player;
-use crate::{tag, wild, worlds};
+use crate::tag::Issue;
+use crate::{wild, worlds};
 
 const MEMORY: u64 = 256;
 
@@ -16,7 +17,8 @@ pub fn play(player: &mut Player) {
     let left = MEMORY - part - cut;
     let rest = Entry::direct(part + cut, left);
     let any = worlds::key(player);
-    let key = found::key(any, |key| tag::issued(&rest, key, 0, 4) == 0);
+    let rest = Issue::of(&rest, 0, 4);
+    let key = found::key(any, |key| rest.tag(key) == 0);
     let world = worlds::dirty(player, 5, MEMORY as usize);
     player.begin(world);
     player.reset(key, 1);

@@ -6,7 +6,8 @@ use session::entry::{self, Entry};
 
 use super::found::{self, MEMORY};
 use crate::player::Player;
-use crate::{tag, wild, worlds};
+use crate::tag::Issue;
+use crate::{wild, worlds};
 
 pub fn play(player: &mut Player) {
     root(player);
@@ -31,11 +32,9 @@ fn root(player: &mut Player) {
     if player.over() {
         return;
     }
-    let revoked = Entry::direct(0, MEMORY);
+    let [once, twice] = [2, 3].map(|nonce| Issue::of(&Entry::direct(0, MEMORY), 0, nonce));
     let any = worlds::key(player);
-    let key = found::key(any, |key| {
-        tag::issued(&revoked, key, 0, 3) == 0 && tag::issued(&revoked, key, 0, 2) != 0
-    });
+    let key = found::key(any, |key| twice.tag(key) == 0 && once.tag(key) != 0);
     let world = worlds::dirty(player, 4, MEMORY as usize);
     player.begin(world);
     player.reset(key, 1);

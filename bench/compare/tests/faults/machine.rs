@@ -31,15 +31,16 @@ pub struct Loaded {
 }
 
 impl Loaded {
-    /// Loads a library, which stays until this process ends.
-    pub fn new(path: &Path) -> Loaded {
+    /// A copy by its function's name. Its library stays loaded until this process ends.
+    pub fn new(path: &Path, function: &str) -> Loaded {
         let path = CString::new(path.as_os_str().as_bytes()).expect("a path");
+        let name = CString::new(function).expect("a name");
         // The library is one that was just built from `loaded`, whose function has this type.
         let serve = unsafe {
             let library = dlopen(path.as_ptr(), NOW);
             assert!(!library.is_null(), "{path:?} cannot be loaded");
-            let serve = dlsym(library, c"serve_loaded".as_ptr());
-            assert!(!serve.is_null(), "{path:?} has no serve_loaded");
+            let serve = dlsym(library, name.as_ptr());
+            assert!(!serve.is_null(), "{path:?} has no {function}");
             transmute::<*mut c_void, Serve>(serve)
         };
         Loaded { serve, world: World::zeros(0, 0) }
