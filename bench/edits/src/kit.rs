@@ -23,13 +23,12 @@ impl Kit {
 }
 
 fn at(home: &Path) -> Result<Kit, String> {
-    let own = home.join("on").join(env::consts::ARCH);
-    let rattle = own.join("bin/rattle");
+    let rattle = home.join("bin/rattle");
     if !rattle.is_file() {
         return Err(format!("expected the Rattle toolchain at {}", rattle.display()));
     }
-    let project = home.join("logic/antt-project.json");
-    Ok(Kit { rattle, project, logic: own.join("logic-built"), libraries: own.join("rlib") })
+    let project = home.join("rattle/logic/antt-project.json");
+    Ok(Kit { rattle, project, logic: home.join("logic_built"), libraries: home.join("rlibs") })
 }
 
 fn home_of_rt() -> Option<PathBuf> {

@@ -7,7 +7,8 @@ pub struct Listed {
     pub below: Vec<String>,
 }
 
-/// Reads `NAME: BELOW BELOW` lines; what stands behind `#` is a comment.
+/// Reads `NAME: BELOW BELOW` lines, with `staticlib` behind the name of a static library; what stands
+/// behind `#` is a comment.
 pub fn read(text: &str) -> Result<Vec<Listed>, String> {
     let lines = text.lines().map(|line| line.split('#').next().unwrap_or("").trim());
     lines.filter(|line| !line.is_empty()).map(listed).collect()
@@ -18,7 +19,8 @@ fn listed(line: &str) -> Result<Listed, String> {
     let (name, below) =
         parts.ok_or_else(|| format!("crates.txt: expected NAME: BELOW .., not {line}"))?;
     let below = below.split_whitespace().map(str::to_string).collect();
-    Ok(Listed { name: name.trim().to_string(), below })
+    let name = name.strip_suffix(" staticlib").unwrap_or(name).trim().to_string();
+    Ok(Listed { name, below })
 }
 
 #[cfg(test)]
@@ -27,7 +29,7 @@ mod tests {
 
     #[test]
     fn crates_with_and_without_others_below() {
-        let crates = read("# all\nbits:\n\nhex: bits  tokens # two\n").unwrap();
+        let crates = read("# all\nbits:\n\nhex staticlib: bits  tokens # two\n").unwrap();
         let listed = |name: &str, below: &[&str]| Listed {
             name: name.to_string(),
             below: below.iter().map(|one| one.to_string()).collect(),

@@ -7,7 +7,7 @@ edits: tries the edits that the prover must refuse, over incremental folders
 
   edits [--from FOLDER] [NAME...]   for example: edits tokens paging
 
-Run it after 'rt ci' or 'rt check' of the same sources, as it takes target/rlib. For each crate
+Run it after build-library of the same sources, as it takes crates/NAME/out/rlib. For each crate
 with a folder crates/NAME/edits (or those named) it checks the crate as it stands, once, over an
 empty incremental folder, and then each *.edit of that folder in a copy of the crate, over a copy
 of the incremental one. --from must-fail takes the edits of rt must-fail instead.

@@ -36,15 +36,6 @@ impl Prover {
         self.root.join("crates").join(name)
     }
 
-    /// How many seconds rt took to prove a crate, where its log tells.
-    pub fn seconds(&self, name: &str) -> Option<u64> {
-        let log = self.root.join("target/log").join(format!("{name}.out"));
-        let text = fs::read_to_string(log).ok()?;
-        let begin = format!("rt: {name} proved (");
-        let told = |line: &str| line.strip_prefix(&begin)?.strip_suffix(" s)")?.parse().ok();
-        text.lines().rev().find_map(told)
-    }
-
     /// Checks a copy of a crate. All that is said goes to the log.
     pub fn check(&self, name: &str, copy: &Path, saved: &Path, log: &Path) -> Result<Said, String> {
         let mut command = Command::new(&self.kit.rattle);
@@ -60,39 +51,52 @@ impl Prover {
 
     /// The words that rt gives the prover.
     fn words(&self, name: &str, copy: &Path) -> Result<Vec<String>, String> {
-        let own = self.root.join("target/rlib");
         let kit = &self.kit.libraries;
         let root = ["src/main.rt", "src/lib.rt"].map(|file| copy.join(file));
         let root = root.into_iter().find(|file| file.is_file());
         let root = root.ok_or("it has neither src/main.rt nor src/lib.rt")?;
-        let library = |folder: &Path, name: &str| {
+        let used = |folder: &Path, name: &str| {
             ["--extern".to_string(), format!("{name}={}/{name}.rlib", folder.display())]
         };
+        let below = |folder: &Path| ["-L".to_string(), format!("dependency={}", folder.display())];
         let mut words = vec!["--crate-name".to_string(), name.to_string(), text(&root)];
-        words.extend(library(kit, "std"));
-        for below in self.below(name)? {
-            let of_kit = !self.folder(below).join("src").is_dir();
-            words.extend(library(if of_kit { kit } else { &own }, below));
+        words.extend(used(kit, "std"));
+        words.extend(below(kit));
+        for one in &self.listed(name)?.below {
+            words.extend(used(&self.built(one)?, one));
         }
-        for folder in [&own, kit] {
-            words.extend(["-L".to_string(), format!("dependency={}", folder.display())]);
+        for one in self.all_below(name)? {
+            words.extend(below(&self.built(&one)?));
         }
         words.extend(["--antt-project".to_string(), text(&self.kit.project)]);
         words.extend(["--logic-built".to_string(), text(&self.kit.logic)]);
         Ok(words)
     }
 
-    /// The crates below one; those of the repository must have been proved.
-    fn below(&self, name: &str) -> Result<&[String], String> {
+    fn listed(&self, name: &str) -> Result<&Listed, String> {
         let listed = self.crates.iter().find(|one| one.name == name);
-        let below = &listed.ok_or("crates.txt does not list it")?.below;
-        let absent = |one: &&String| {
-            let of_kit = !self.folder(one).join("src").is_dir();
-            !of_kit && !self.root.join(format!("target/rlib/{one}.rlib")).exists()
-        };
-        match below.iter().find(absent) {
-            Some(one) => Err(format!("target/rlib has no {one}, which 'rt check' makes")),
-            None => Ok(below),
+        listed.ok_or_else(|| format!("crates.txt does not list {name}"))
+    }
+
+    /// The crates of the repository below one, each once.
+    pub fn all_below(&self, name: &str) -> Result<Vec<String>, String> {
+        let mut all = Vec::new();
+        let mut next = self.listed(name)?.below.clone();
+        while let Some(one) = next.pop() {
+            if !all.contains(&one) {
+                next.extend_from_slice(&self.listed(&one)?.below);
+                all.push(one);
+            }
+        }
+        Ok(all)
+    }
+
+    /// The folder with a proved crate's library.
+    fn built(&self, name: &str) -> Result<PathBuf, String> {
+        let folder = self.folder(name).join("out/rlib");
+        match folder.join(format!("{name}.rlib")).exists() {
+            true => Ok(folder),
+            false => Err(format!("crates/{name}/out has no library, which 'rt lib' makes")),
         }
     }
 }

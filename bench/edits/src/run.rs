@@ -70,7 +70,7 @@ fn root() -> Result<PathBuf, String> {
     root.map(Path::to_path_buf).ok_or("expected crates.txt in this folder or above it".to_string())
 }
 
-/// The crates whose edits are tried, those first that rt took longest to prove.
+/// The crates whose edits are tried, those first that stand on most.
 fn wanted(prover: &Prover, options: &Options) -> Result<Vec<String>, String> {
     let has_edits = |name: &String| prover.folder(name).join(&options.from).is_dir();
     let mut names = options.names.clone();
@@ -83,8 +83,8 @@ fn wanted(prover: &Prover, options: &Options) -> Result<Vec<String>, String> {
     if names.is_empty() {
         return Err(format!("expected a crate with a folder {}, and none has one", options.from));
     }
-    let seconds = |name: &String| prover.seconds(name).unwrap_or(u64::MAX);
-    names.sort_by_key(|name| std::cmp::Reverse(seconds(name)));
+    let stands_on = |name: &String| prover.all_below(name).map_or(0, |all| all.len());
+    names.sort_by_key(|name| std::cmp::Reverse(stands_on(name)));
     Ok(names)
 }
 

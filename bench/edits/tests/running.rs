@@ -23,9 +23,9 @@ impl Repository {
         let _ = fs::remove_dir_all(&folder);
         let repository = Repository { folder };
         repository.write("temporary/held", "");
-        repository.write("kit/logic/antt-project.json", "");
-        let prover = format!("kit/on/{}/bin/rattle", env::consts::ARCH);
-        repository.write(&prover, include_str!("prover.sh"));
+        repository.write("kit/rattle/logic/antt-project.json", "");
+        let prover = "kit/bin/rattle";
+        repository.write(prover, include_str!("prover.sh"));
         let executable = fs::Permissions::from_mode(0o755);
         fs::set_permissions(repository.folder.join(prover), executable).expect("a mode");
         repository
@@ -156,8 +156,9 @@ fn a_crate_over_one_that_was_not_proved_fails() {
     repository.edit("one/first", "equal", "edited unequal");
     repository.write("crates/two/src/lib.rt", "equal\n");
     repository.write("crates.txt", "two:\none: two\n");
-    repository.fails("edits: one: FAILED: target/rlib has no two");
-    fs::create_dir_all(repository.folder.join("target/rlib/two.rlib")).expect("a folder");
+    repository.fails("edits: one: FAILED: crates/two/out has no library");
+    let built = repository.folder.join("crates/two/out/rlib/two.rlib");
+    fs::create_dir_all(built).expect("a folder");
     assert_eq!(repository.tried(&[]).0, 0);
 }
 
@@ -184,8 +185,8 @@ fn the_kits_prover_refuses_a_wrong_number_and_not_a_comment() {
         return println!("the kit's prover was not tried, as rt is not installed");
     }
     let repository = Repository::new("kit");
-    let code = "ghost use mathlib.Core.Path.{_≡_};\n\n// seven\npub fn seven() -> usize\n    \
-                ensures { λ r. ⌜ r ≡ 7 ⌝ }\n{\n    7\n}\n";
+    let code = "#![tactic(auto)]\nghost use Rattle.std.specs.Prelude.{◌≡◌};\n\n// seven\n\
+                pub fn seven() -> usize\n    ensures { result ≡ 7 }\n{\n    7\n}\n";
     repository.put("one", code);
     repository.edit("one/comment", "// seven", "// the number seven");
     repository.edit("one/eight", "    7", "    8");

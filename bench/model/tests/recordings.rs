@@ -60,7 +60,7 @@ fn shift(term: &Term, definitions: &Definitions) -> (u64, Vec<u8>) {
     }
     let last = words.last().expect("an access has words");
     match last.call() {
-        ("noShift", []) => (0, Vec::new()),
+        ("no_shift", []) => (0, Vec::new()),
         ("during", [minute, leases]) => (minute.number(), bytes(named(leases, definitions))),
         _ => panic!("no shift: {term:?}"),
     }
@@ -97,7 +97,7 @@ fn request(term: &Term, minute: u64) -> Request {
             encoding: n[4],
             ..empty
         },
-        "executeOnly" => Request { operation: EXECUTE_ONLY, encoding: n[1], ..empty },
+        "execute_only" => Request { operation: EXECUTE_ONLY, encoding: n[1], ..empty },
         "clone" => Request { operation: CLONE, ..empty },
         "release" => Request { operation: DROP, ..empty },
         "lock" => Request { operation: LOCK, task: n[1], ..empty },
@@ -105,10 +105,10 @@ fn request(term: &Term, minute: u64) -> Request {
         "revoke" => Request { operation: REVOKE, encoding: n[1], ..empty },
         "load" => Request { operation: LOAD, second: minute, task: n[1], ..empty },
         "dump" => Request { operation: DUMP, second: minute, task: n[1], ..empty },
-        "pageOut" => {
+        "page_out" => {
             Request { operation: PAGE_OUT, task: n[1], second: n[2], encoding: n[3], ..empty }
         }
-        "pageIn" => {
+        "page_in" => {
             Request { operation: PAGE_IN, second: n[1], task: n[2], encoding: n[3], ..empty }
         }
         _ => panic!("no request: {term:?}"),
@@ -223,7 +223,7 @@ fn replay(session: &Term, definitions: &Definitions) -> usize {
 #[test]
 fn sessions_are_served_as_recorded() {
     let definitions = recordings();
-    let lists = ["sessions", "sessionsAbove", "sessionsKept"].map(|name| definitions[name].list());
+    let lists = ["sessions", "sessions_above", "sessions_kept"].map(|name| definitions[name].list());
     let sessions: Vec<&Term> = lists.into_iter().flatten().collect();
     let rows: usize =
         sessions.iter().map(|name| replay(&definitions[name.word()], &definitions)).sum();
@@ -233,7 +233,7 @@ fn sessions_are_served_as_recorded() {
 #[test]
 fn limits_are_those_recorded() {
     let definitions = recordings();
-    let lists = ["limits", "limitsAbove"].map(|name| definitions[name].list());
+    let lists = ["limits", "limits_above"].map(|name| definitions[name].list());
     let rows: Vec<&Term> = lists.into_iter().flatten().collect();
     for row in &rows {
         let ("limit", [memory, entries, last, next, total, asked, refusal]) = row.call() else {
@@ -253,7 +253,7 @@ fn limits_are_those_recorded() {
 #[test]
 fn bytes_move_as_recorded() {
     let definitions = recordings();
-    let rows = definitions["bytesMoved"].list();
+    let rows = definitions["bytes_moved"].list();
     for row in rows {
         let ("moves", [from, entries, memory, calls, buffers, left]) = row.call() else {
             panic!("no moves: {row:?}")

@@ -32,7 +32,7 @@ use tokens::token::{Named, read};
 
 // What the checks of an access come to: where it stops, or where in memory it begins, at the
 // segment's base and the token's offset.
-#[derive(Drop)]
+#[derive(Clone, Copy)]
 pub enum Transfer {
     Stop(Refusal),
     From(u64),
@@ -86,7 +86,7 @@ fn check_far(
     }
 }
 
-// The same where the token names a direct, well_formed entry.
+// The same where the token names a direct, well-formed entry.
 fn check_near(
     table: &[u8],
     memory: u64,
@@ -206,8 +206,8 @@ fn store(memory: &mut [u8], start: usize, buffer: &[u8])
 // The bytes go the way of the access.
 fn carry(way: Way, memory: &mut [u8], start: usize, buffer: &mut [u8])
     requires { (start + length buffer.old ≤ length memory.old) × (length buffer.old ≤ 4096) }
-    ensures memory_after { memory.new ≡ memory_after (transfer (way_as way) start buffer.old) memory.old }
-    ensures buffer_after { buffer.new ≡ buffer_after (transfer (way_as way) start buffer.old) memory.old buffer.old }
+    ensures memory_left { memory.new ≡ memory_after (transfer (way_as way) start buffer.old) memory.old }
+    ensures buffer_left { buffer.new ≡ buffer_after (transfer (way_as way) start buffer.old) memory.old buffer.old }
 {
     match way {
         Way::Read => load(memory, start, buffer),

@@ -1,2 +1,4 @@
 // Accesses: read, write and fetch.
+#![tactic(auto)]
+
 pub mod access;

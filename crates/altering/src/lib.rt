@@ -1,2 +1,4 @@
 // Altering: the writes that free and alter entries, and reset's.
+#![tactic(auto)]
+
 pub mod writes;

@@ -12,6 +12,7 @@ use table::entries::{put_words, words_at};
 use table::state::StateWords;
 
 // As many numbers but 0 as the table has.
+#[tactic(auto, unfolding(machine::specs::Parts::size))]
 pub fn most_free(table: &[u8]) -> u64
     requires { 32 ≤ length table.now }
     ensures { result ≡ most_free table.now }

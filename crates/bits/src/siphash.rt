@@ -4,7 +4,7 @@ ghost use Rattle.bits.specs.SipHash as spec;
 
 use crate::word::{get_low, joined};
 
-#[derive(Drop)]
+#[derive(Clone, Copy)]
 pub struct Lanes {
     pub v0: u64,
     pub v1: u64,

@@ -26,6 +26,7 @@ fn sized(request: &[u8], state: &[u8], answer: &[u8]) -> bool
 }
 
 // The request of a call without leases, if its parts have their sizes.
+#[tactic(auto, unfolding(interface::specs::Exported::asked))]
 pub fn asked_of(request: &[u8], state: &[u8], answer: &[u8]) -> Asked
     ensures { asked_as result [] ≡ asked request.now state.now answer.now no_leases }
 {
@@ -37,6 +38,7 @@ pub fn asked_of(request: &[u8], state: &[u8], answer: &[u8]) -> Asked
 }
 
 // The request of a call with leases, if they have their size too, whatever the request.
+#[tactic(auto, unfolding(interface::specs::Exported::asked))]
 pub fn leased_asked_of(request: &[u8], state: &[u8], answer: &[u8], leases: &[u8]) -> Asked
     ensures { asked_as result leases.now ≡ asked request.now state.now answer.now (interface.with_leases leases.now) }
 {
@@ -48,6 +50,7 @@ pub fn leased_asked_of(request: &[u8], state: &[u8], answer: &[u8], leases: &[u8
 }
 
 // A broken call: refusal 1, which an answer of its size tells.
+#[tactic(auto, unfolding(interface::specs::Exported::told))]
 pub fn refuse(answer: &mut [u8]) -> u64
     ensures { (result ≡ 1) × (answer.new ≡ told answer.old) }
 {

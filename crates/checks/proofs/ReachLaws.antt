@@ -16,7 +16,7 @@ use Rattle.machine.specs.Line.{bad_of, dead, ill, is_ill, is_locked, is_paged, i
 use Rattle.machine.specs.Operations.{named_entry, number_of}
 use Rattle.machine.specs.Parts.{at, size}
 use Rattle.machine.specs.Steps.{pass, stop, Verdict, verdict}
-use Rattle.machine.specs.Stops.{at_entry, at_form, at_line, at_lock, at_paged, Check, entry_named, formed, is_named, line_alive, line_formed, live, lock_open, not_paged, page_reachable, reachable, Refusal, refusal_number}
+use Rattle.machine.specs.Stops.{at_entry, at_form, at_line, at_lock, at_paged, Check, entry_named, formed, is_named, line_alive, line_formed, live, lock_open, not_paged, Refusal, refusal_number}
 use Rattle.machine.proofs.Basics.{present, range}
 use Rattle.machine.proofs.Decided.{passed}
 use Rattle.machine.proofs.Fuel.{line_formed_lem, walk-owner}
@@ -211,7 +211,7 @@ reached_inside m t n full here formed = (range m (at t n) (present (at t n) full
 pub reaches_as : (t : List ℕ) (r : Reached) (l : Line) (v w : Verdict) → w ≡ v → Reaches t r v l → Reaches t r w l
 reaches_as t r l v w e h = subst (λ (x : Verdict). Reaches t r x l) (sym e) h
 
--- ---- a direct, well_formed entry is its own owner
+-- ---- a direct, well-formed entry is its own owner
 
 module _ (m : ℕ) (t : List ℕ) (k : ℕ) (n : Named) (is : n ≡ named k) (h : Near m t n) where
   near-named : named_holds t k ≡ true

@@ -44,7 +44,7 @@ abbrev pub Forms : Formed → Verdict → Bool → Type 0
 Forms (held.Stop why) v b = v ≡ stop_as why
 Forms (held.Locked l) v b = (v ≡ pass) × (l ≡ b)
 
--- a token that is read as n names a direct, well_formed entry
+-- a token that is read as n names a direct, well-formed entry
 pub record Near (m : ℕ) (t : List ℕ) (n : Named) : Type 0 where
   pub inside : n.number < length t / 32
   pub direct : (at t n.number).kind ≡ 1

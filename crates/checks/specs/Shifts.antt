@@ -1,6 +1,6 @@
 -- What an access brings beside its bytes, and what its tokens and leases come to.
 -- Assumes nothing.
-use Rattle.std.specs.Prelude.{◌≡◌, false, List, [], ◌∷◌, ◌++◌, ℕ}
+use Rattle.std.specs.Prelude.{false, List, [], ◌∷◌, ◌++◌, ℕ}
 use Rattle.leases.specs.Lease.{judged, leases_of}
 use Rattle.leases.specs.declared.lease.Window.{Window}
 use Rattle.machine.specs.Operations.{number_of}

@@ -14,21 +14,21 @@ use table::line::{Line, is_paged, walk};
 use tokens::token::Named;
 
 // What the checks of a token come to: where it stops, or the owner of its line.
-#[derive(Drop)]
+#[derive(Clone, Copy)]
 pub enum Reached {
     Stop(Refusal),
     Owner(usize),
 }
 
 // What places 2 and 3 of a token come to: where it stops, or whether its line is locked.
-#[derive(Drop)]
+#[derive(Clone, Copy)]
 pub enum Formed {
     Stop(Refusal),
     Locked(bool),
 }
 
 // What places 2 to 5 of a token come to where its owner does not matter.
-#[derive(Drop)]
+#[derive(Clone, Copy)]
 pub enum Passing {
     Stop(Refusal),
     Pass,
@@ -73,7 +73,7 @@ fn reach_live(table: &[u8], memory: u64, number: u64, tag: u64) -> Reached
     }
 }
 
-// A quick yes: a token that is read as n names a direct, well_formed entry, which is its own owner.
+// A quick yes: a token that is read as n names a direct, well-formed entry, which is its own owner.
 pub fn near(table: &[u8], memory: u64, n: Named) -> bool
     ensures { result ≡ true → Near memory table.now n }
 {

@@ -4,14 +4,14 @@ ghost use Rattle.machine.specs.Stops.{bad_number, refusal_bad, refusal_number};
 ghost use Rattle.checks.specs.Refusals.{bad_as, refusal_as};
 
 // Which entry of a line was the bad one.
-#[derive(Drop)]
+#[derive(Clone, Copy)]
 pub enum Bad {
     Named,
     Ancestor,
 }
 
 // Why a request stops, in the order of 01's table, and after it as 02 numbers them.
-#[derive(Drop)]
+#[derive(Clone, Copy)]
 pub enum Refusal {
     // 1: a size or setting is broken, or the request itself.
     Request,
@@ -51,7 +51,7 @@ pub enum Refusal {
 }
 
 // 01's number of a refusal, and which entry was bad: 0 if it tells of none.
-#[derive(Drop)]
+#[derive(Clone, Copy)]
 pub struct RefusalWords {
     pub number: u64,
     pub bad: u64,

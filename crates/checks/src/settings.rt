@@ -6,6 +6,7 @@ ghost use Rattle.checks.specs.Holds.{settings_hold, sizes_hold};
 use table::state::StateWords;
 
 // Memory has 1 to 16,777,216 bytes, and the table 2 to 1,024 whole entries.
+#[tactic(auto, unfolding(crate::specs::Holds::sizes_hold, machine::specs::Parts::size))]
 pub fn sizes(memory: u64, table: &[u8]) -> bool
     ensures { result ≡ sizes_hold memory table.now }
 {

@@ -6,6 +6,7 @@ ghost use Rattle.checks.specs.Shifts.{shift_as};
 use leases::lease::{WEEK, fits};
 
 // The table of leases has its size, and the minute lies in the week.
+#[tactic(auto, unfolding(crate::specs::Holds::shift_holds))]
 pub fn shift_fits(leases: &[u8], minute: u64) -> bool
     ensures { result ≡ shift_holds (shift_as minute leases.now) }
 {

@@ -288,3 +288,6 @@ module _ (k : ℕ) (t : List ℕ) (n : ℕ) (e : Entry) (b : Bool) (k' : ℕ) (t
 
   pub fall_up : (k'' : ℕ) (t'' : List ℕ) → Climbed k' t' p k'' t'' → Climbed k t n k'' t''
   fall_up = fallen.rest
+
+-- a direct entry stays
+pub ruleset stays = (climb-direct)

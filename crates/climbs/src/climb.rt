@@ -51,6 +51,7 @@ fn climb(table: &mut [u8], n: usize, calls: u64) -> u64
 }
 
 // The total with so many free numbers more, up to the top.
+#[tactic(auto, unfolding(crate::specs::Climbs::raised))]
 fn raise(total: u64, freed: u64, top: u64) -> u64
     ensures { result ≡ raised top freed total }
 {
@@ -65,6 +66,7 @@ fn raise(total: u64, freed: u64, top: u64) -> u64
 }
 
 // The same to its end. It is handed the total of free numbers, and gives it as it then is.
+#[tactic(auto, using(crate::proofs::ClimbLaws::ahead_on, crate::proofs::ClimbLaws::long_on, crate::proofs::ClimbLaws::yet_less))]
 fn climb_on(total: u64, table: &mut [u8], n: usize) -> u64
     requires { 32 * n + 32 ≤ length table.old }
     ensures { Climbed total table.old n result table.new }
@@ -81,6 +83,7 @@ fn climb_on(total: u64, table: &mut [u8], n: usize) -> u64
 }
 
 // The same, quick where entry n is direct: it stays, so that nothing climbs.
+#[tactic(auto, using(crate::proofs::ClimbLaws::stays))]
 fn settle(total: u64, table: &mut [u8], n: usize) -> u64
     requires { 32 * n + 32 ≤ length table.old }
     ensures { Climbed total table.old n result table.new }
@@ -95,6 +98,7 @@ fn settle(total: u64, table: &mut [u8], n: usize) -> u64
 }
 
 // The same, quick also where entry n is freed and its parent is direct.
+#[tactic(auto, using(crate::proofs::ClimbLaws::stays))]
 pub fn fall(total: u64, table: &mut [u8], n: usize) -> u64
     requires { 32 * n + 32 ≤ length table.old }
     ensures { Climbed total table.old n result table.new }

@@ -36,9 +36,13 @@ use Rattle.climbs.specs.Climbs.{Climbed, climbed, leaving}
 
 module _ (m : ℕ) (s : State) (t : List ℕ) (k : ℕ) where
   -- place 1, with the token read as n
-  pub drop-request : (n : Named) → n ≡ named k → (settings_hold m s t && eqb n.offset 0) ≡ request_holds m s t (release k) []
+  drop-request : (n : Named) → n ≡ named k → (settings_hold m s t && eqb n.offset 0) ≡ request_holds m s t (release k) []
   unfolding settings_hold request_holds
   drop-request n is = rw is
+
+  -- and as its test says, with r for the settings
+  pub drop_asked : (n : Named) (r b : Bool) → n ≡ named k → r ≡ settings_hold m s t → (r && eqb n.offset 0) ≡ b → request_holds m s t (release k) [] ≡ b
+  drop_asked n r b is held h = sym (drop-request n is) ∙ rw held at h
 
   pub drop_token : {v : Verdict} → formed_verdict m t k ≡ v → tokens_on m s t (release k) [] ≡ v
   unfolding formed_verdict tokens_on
@@ -48,7 +52,7 @@ module _ (m : ℕ) (s : State) (t : List ℕ) (k : ℕ) where
   still : Still (opened s t) (book s t (grant_release m t (number_of k)))
   still = calm_still 0 (opened s t) (grant_release m t (number_of k)).writes (release_calm m t (number_of k))
 
-  -- the token's line is well_formed, and its entry is e
+  -- the token's line is well-formed, and its entry is e
   module _ (n : Named) (is : n ≡ named k) (e : Entry) (there : e ≡ at t n.number) (ok : request_holds m s t (release k) [] ≡ true) (l : formed_verdict m t k ≡ pass) where
     counted : verdict_on m s t (release k) [] ≡ cond (not (eqb e.count 0)) pass (stop at_standing)
     counted =

@@ -14,7 +14,7 @@ use table::state::StateWords;
 use tags::tag::{stamped, two_tags};
 
 // A nonce, and the tag of what is issued with it.
-#[derive(Drop)]
+#[derive(Clone, Copy)]
 pub struct Found {
     pub nonce: u64,
     pub tag: u16,
@@ -77,7 +77,7 @@ pub fn find(s: StateWords, table: &[u8], n: usize, w: Words) -> Found
 }
 
 // Two of them.
-#[derive(Drop)]
+#[derive(Clone, Copy)]
 pub struct FoundTwo {
     pub first: Found,
     pub second: Found,

@@ -1,2 +1,4 @@
 // Which entries are ill-formed.
+#![tactic(auto)]
+
 pub mod form;

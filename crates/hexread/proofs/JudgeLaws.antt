@@ -11,11 +11,11 @@ use lib.ListN.{drop, drop_of_length-le, length, length-drop, take}
 use lib.Seq.{drop-drop, take_all}
 use borrow.Author.Tests.{ne_eqb}
 use Rattle.hexread.specs.Answers.{judged_as, raised, record_in}
-use Rattle.hex.specs.Text.{after, ending, lines, loads, read, refused, Said, said}
+use Rattle.hexfile.specs.Text.{after, ending, lines, loads, read, refused, Said, said}
 use Rattle.hexread.specs.declared.record.Record.{Record}
 use Rattle.hexread.specs.declared.record.Record.TheVariants.{Data, End, Malformed, Page, WrongSum}
 use Rattle.hexread.specs.declared.text.Judged.TheVariants as judged
-use Rattle.hex.proofs.LineLaws.{ending_more, ending_none}
+use Rattle.hexfile.proofs.LineLaws.{ending_more, ending_none}
 use Rattle.hexread.proofs.KindLaws.{bad-read, DataRead, data_read, end_read, page-read, piece_in, read_none, wrong-read}
 
 -- ---- the largest end

@@ -8,10 +8,10 @@ use lib.ListN.{drop, length, length-drop, length-take, take}
 use lib.Seq.{drop-append-le, drop_at, drop-drop, take-append-le}
 use Rattle.bits.specs.Bytes.{AllBytes}
 use Rattle.bits.proofs.ByteLists.{bytes_drop, bytes_take}
-use Rattle.hex.specs.Record.{address, byte, bytes_of, count, data_of, page_of, type}
-use Rattle.hex.specs.Text.{after, ending, lines, Piece, piece_at, read, refused}
-use Rattle.hex.proofs.LineLaws.{below}
-use Rattle.hex.proofs.ReadLaws.{bad, ends, held, holds, Kind, Passed, passed, passed-long, passed-read, refused-read, Seen, seen, turns, wrong}
+use Rattle.hexfile.specs.Record.{address, byte, bytes_of, count, data_of, page_of, type}
+use Rattle.hexfile.specs.Text.{after, ending, lines, Piece, piece_at, read, refused}
+use Rattle.hexfile.proofs.LineLaws.{below}
+use Rattle.hexfile.proofs.ReadLaws.{bad, ends, held, holds, Kind, Passed, passed, passed-long, passed-read, refused-read, Seen, seen, turns, wrong}
 use Rattle.hexread.specs.Answers.{record_in}
 use Rattle.hexread.specs.declared.record.Record.{Record}
 use Rattle.hexread.specs.declared.record.Record.TheVariants.{Data, End, Malformed, Page, WrongSum}

@@ -10,10 +10,10 @@ use lib.ListN.{drop, get_or, length, length-append, length-drop, length-take, ge
 use lib.Seq.{get_or_at, get_or-take, split_at, take_at}
 use borrow.Author.Tests.{eq-eqb}
 use Rattle.bits.specs.Bytes.{AllBytes}
-use Rattle.hex.specs.Record.{address, byte, bytes_of, count, malformed, no_byte, page_of, type, verdict, wrong_sum}
-use Rattle.hex.specs.Text.{first, lines}
-use Rattle.hex.proofs.LineLaws.{all_bytes, below, bytes_all, even, field, lines-line, plain-bytes, verdict-lines}
-use Rattle.hex.proofs.ReadLaws.{bad, ends, Formed, held, holds, Kind, Passed, passed, passed-formed, passed-long, Seen, seen, turns, wrong}
+use Rattle.hexfile.specs.Record.{address, byte, bytes_of, count, malformed, no_byte, page_of, type, verdict, wrong_sum}
+use Rattle.hexfile.specs.Text.{first, lines}
+use Rattle.hexfile.proofs.LineLaws.{all_bytes, below, bytes_all, even, field, lines-line, plain-bytes, verdict-lines}
+use Rattle.hexfile.proofs.ReadLaws.{bad, ends, Formed, held, holds, Kind, Passed, passed, passed-formed, passed-long, Seen, seen, turns, wrong}
 use Rattle.hexread.specs.Answers.{bytes_as, good_as, record_in}
 use Rattle.hexread.specs.Premises.{Counted}
 use Rattle.hexread.specs.Values.{pair_of, word_of}

@@ -10,9 +10,9 @@ use lib.Dec.{eqb, ltb}
 use lib.ListN.{get_or, length}
 use borrow.Author.Tests.{ne_eqb}
 use Rattle.bits.specs.Bytes.{AllBytes}
-use Rattle.hex.specs.Record.{address, bytes_of, faults_of, no_byte, page_of, some, type, verdict_of}
-use Rattle.hex.proofs.LineLaws.{all_bytes, below, bytes_all, even, field}
-use Rattle.hex.proofs.ReadLaws.{ends, holds, Kind, kind_of, turns}
+use Rattle.hexfile.specs.Record.{address, bytes_of, faults_of, no_byte, page_of, some, type, verdict_of}
+use Rattle.hexfile.proofs.LineLaws.{all_bytes, below, bytes_all, even, field}
+use Rattle.hexfile.proofs.ReadLaws.{ends, holds, Kind, kind_of, turns}
 use Rattle.hexread.specs.Answers.{bytes_as, record_as}
 use Rattle.hexread.specs.Premises.{Counted, Ruled, Summed}
 use Rattle.hexread.specs.Values.{pair_of, word_of}

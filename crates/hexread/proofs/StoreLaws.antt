@@ -15,16 +15,16 @@ use borrow.Author.Tests.{eqb-true, ne_eqb}
 use Rattle.bits.specs.Bytes.{AllBytes}
 use borrow.Rule.Slice.PartMut.{put_mid}
 use Rattle.hexread.specs.Answers.{applied, Fits, judged_as, record_in}
-use Rattle.hex.specs.Record.{bytes_of}
-use Rattle.hex.specs.Text.{after, apply, ending, farthest, first, lines, loads, piece_at, read, refused, Said, said}
+use Rattle.hexfile.specs.Record.{bytes_of}
+use Rattle.hexfile.specs.Text.{after, apply, ending, farthest, first, lines, loads, piece_at, read, refused, Said, said}
 use Rattle.hexread.specs.declared.record.Record.{Record}
 use Rattle.hexread.specs.declared.record.Record.TheVariants.{Data, End, Malformed, Page, WrongSum}
 use Rattle.hexread.specs.declared.text.Judged.{Judged}
 use Rattle.hexread.specs.declared.text.Judged.TheVariants as judged
 use Rattle.hexread.specs.Premises.{chars_at, Placed}
 use Rattle.hexread.specs.Values.{pair_of}
-use Rattle.hex.proofs.LineLaws.{below, even}
-use Rattle.hex.proofs.ReadLaws.{bad, passed, passed_first, passed-long, refused-read, Seen, seen, wrong}
+use Rattle.hexfile.proofs.LineLaws.{below, even}
+use Rattle.hexfile.proofs.ReadLaws.{bad, passed, passed_first, passed-long, refused-read, Seen, seen, wrong}
 use Rattle.hexread.proofs.JudgeLaws.{part, part-whole}
 use Rattle.hexread.proofs.KindLaws.{bad-read, data_in, data_read, end_read, page-read, piece_in, read_none, wrong-read}
 use Rattle.hexread.proofs.RecordLaws.{field_at}

@@ -10,8 +10,8 @@ use lib.ListN.{drop, drop_of_length-le, get_or, length}
 use lib.Seq.{drop-cons}
 use borrow.Author.Tests.{lt-ltb, ltb-true}
 use Rattle.bits.specs.Bytes.{AllBytes}
-use Rattle.hex.specs.Record.{byte, bytes_of, digit, sum}
-use Rattle.hex.proofs.DigitLaws.{byte-digits}
+use Rattle.hexfile.specs.Record.{byte, bytes_of, digit, sum}
+use Rattle.hexfile.proofs.DigitLaws.{byte-digits}
 use Rattle.hexread.specs.Premises.{Summed}
 use Rattle.hexread.specs.Values.{highs, lows, value_of, values, values_from}
 

@@ -1,8 +1,8 @@
 -- What the code answers of a record and of a text.
 -- Assumes nothing.
 use Rattle.std.specs.Prelude.{cond, not, ◌||◌, List, [], ◌∷◌, ℕ, zero, suc, ◌+◌, ◌*◌, ◌%◌, ◌≤◌, max, eqb}
-use Rattle.hex.specs.Record.{address, count, faults_of, inside, no_byte, page_of, some, sum, type, verdict_of}
-use Rattle.hex.specs.Text.{apply, farthest, first, loads, refused, Said}
+use Rattle.hexfile.specs.Record.{address, count, faults_of, inside, no_byte, page_of, some, sum, type, verdict_of}
+use Rattle.hexfile.specs.Text.{apply, farthest, first, loads, refused, Said}
 use Rattle.hexread.specs.declared.record.Record.{Record}
 use Rattle.hexread.specs.declared.record.Record.TheVariants.{Data, End, Malformed, Page, WrongSum}
 use Rattle.hexread.specs.declared.text.Judged.{Judged}

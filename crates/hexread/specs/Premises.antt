@@ -2,7 +2,7 @@
 -- Assumes nothing.
 use Rattle.std.specs.Prelude.{◌≡◌, List, ℕ, ◌+◌, ◌*◌, ◌<◌, ◌≤◌, drop, length, take}
 use Rattle.bits.specs.Bytes.{AllBytes}
-use Rattle.hex.specs.Record.{bytes_of, count, sum}
+use Rattle.hexfile.specs.Record.{bytes_of, count, sum}
 use Rattle.hexread.specs.Values.{highs, lows}
 
 pub record Summed (cs : List ℕ) (high low : ℕ) : Type 0 where

@@ -1,7 +1,7 @@
 -- What the code's table holds, and its sums.
 -- Assumes nothing.
 use Rattle.std.specs.Prelude.{cond, List, [], ◌∷◌, ℕ, zero, suc, ◌+◌, ◌*◌, ltb, get_or}
-use Rattle.hex.specs.Record.{digit}
+use Rattle.hexfile.specs.Record.{digit}
 
 -- a digit's value, or 4,096: more than all digits of a record make
 unfoldable pub value_of : ℕ → ℕ

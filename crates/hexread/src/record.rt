@@ -1,7 +1,7 @@
 // One record.
 ghost use Rattle.std.specs.Prelude.{◌≡◌, ◌*◌, ◌<◌, ◌≤◌, length};
-ghost use Rattle.hex.specs.Record.{bytes_of, faults_of, some};
-ghost use Rattle.hex.specs.Text.{first, lines};
+ghost use Rattle.hexfile.specs.Record.{bytes_of, faults_of, some};
+ghost use Rattle.hexfile.specs.Text.{first, lines};
 ghost use Rattle.hexread.specs.Answers.{bytes_as, record_in};
 ghost use Rattle.hexread.specs.Premises.{Counted, Ruled, Summed};
 ghost use Rattle.hexread.specs.Values.{values};
@@ -9,7 +9,7 @@ ghost use Rattle.hexread.specs.Values.{values};
 use crate::digits::{pair, value, word};
 
 // Data at an address of the page, so many bytes; the end; or a page.
-#[derive(Drop)]
+#[derive(Clone, Copy)]
 pub enum Record {
     Malformed,
     WrongSum,
@@ -19,7 +19,7 @@ pub enum Record {
 }
 
 // Sums of digits: the first ones of bytes, and the second ones.
-#[derive(Drop)]
+#[derive(Clone, Copy)]
 pub struct Sums {
     pub high: usize,
     pub low: usize,

@@ -1,8 +1,8 @@
 // The data of a text, stored.
 ghost use Rattle.std.specs.Prelude.{◌≡◌, ◌+◌, ◌*◌, ◌%◌, ◌<◌, ◌≤◌, length};
 ghost use Rattle.bits.specs.Bytes.{AllBytes};
-ghost use Rattle.hex.specs.Record.{bytes_of};
-ghost use Rattle.hex.specs.Text.{apply, piece_at, said};
+ghost use Rattle.hexfile.specs.Record.{bytes_of};
+ghost use Rattle.hexfile.specs.Text.{apply, piece_at, said};
 ghost use Rattle.hexread.specs.Answers.{applied, Fits};
 ghost use Rattle.hexread.specs.Premises.{chars_at, Placed};
 ghost use Rattle.hexread.specs.Values.{values};

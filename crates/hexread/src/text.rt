@@ -1,14 +1,14 @@
 // A whole text.
 ghost use Rattle.std.specs.Prelude.{◌≡◌, ◌<◌};
 ghost use Rattle.hexread.specs.Answers.{judged_as, raised};
-ghost use Rattle.hex.specs.Text.{said};
+ghost use Rattle.hexfile.specs.Text.{said};
 ghost use Rattle.hexread.specs.Values.{values};
 
 use crate::digits::table;
 use crate::record::{Record, record_in};
 
 // The largest end of a text's data, or why it is refused.
-#[derive(Drop)]
+#[derive(Clone, Copy)]
 pub enum Judged {
     Loads(usize),
     Malformed,

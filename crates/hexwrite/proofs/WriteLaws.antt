@@ -3,10 +3,10 @@
 use Rattle.std.proofs.Common.{◌≡◌, ℕ, suc, ◌+◌, ◌-◌, ◌*◌, ◌/◌, ◌%◌, ◌<◌, ◌≤◌, min, Bool, true, false, leb, ◌⊎◌, List, [], ◌∷◌, ◌++◌, length, get_or, take, drop, set, sym, refl, ap, ◌∙◌, inl, inr, append_assoc, append-nil, add-zero, add-one, arith, length-append, length-drop, length-set, drop_of_length-le, length-take, take_all, drop-cons, take-suc, drop-drop, le-ltb, lt-ltb, leb-false, leb-true}
 use native.Mathlib.Nat.{add-sub_cancel_left}
 use lib.Seq.{sets}
-use Rattle.hex.specs.Record.{sum}
-use Rattle.hex.specs.Written.{capital, checksum, data_records, digits, fields, line_of, many, record_of, written}
+use Rattle.hexfile.specs.Record.{sum}
+use Rattle.hexfile.specs.Written.{capital, checksum, data_records, digits, fields, line_of, many, record_of, written}
 use Rattle.hexwrite.specs.Laid.{Laid}
-use Rattle.hex.proofs.WrittenLaws.{length_data, length_digits, length_record}
+use Rattle.hexfile.proofs.WrittenLaws.{length_data, length_digits, length_record}
 
 -- ---- one after the other
 

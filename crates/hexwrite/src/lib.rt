@@ -1,10 +1,13 @@
 // Intel HEX text, written.
+#![tactic(auto)]
+
 ghost use Rattle.std.specs.Prelude.{◌≡◌, ◌+◌, ◌-◌, ◌*◌, ◌/◌, ◌%◌, ◌<◌, ◌≤◌, min, [], ◌∷◌, length};
-ghost use Rattle.hex.specs.Record.{sum};
-ghost use Rattle.hex.specs.Written.{capital, data_records, digits, many, record_of, written, written_length};
+ghost use Rattle.hexfile.specs.Record.{sum};
+ghost use Rattle.hexfile.specs.Written.{capital, data_records, digits, many, record_of, written, written_length};
 ghost use Rattle.hexwrite.specs.Laid.{Laid};
 
 // The capital digit of a value.
+#[tactic(auto, using(crate::proofs::WriteLaws::capital_tens, crate::proofs::WriteLaws::capital_letters))]
 fn capital(d: u8) -> u8
     requires { d < 16 }
     ensures { result ≡ capital d }

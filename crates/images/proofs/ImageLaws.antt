@@ -10,11 +10,11 @@ use lib.Dec.{eqb, leb, ltb}
 use lib.ListN.{drop, length, length-drop, length-take, take}
 use borrow.Author.Tests.{le-leb, leb-true, lt-leb}
 use borrow.Rule.Slice.PartMut.{put_mid}
-use Rattle.hex.specs.Accounted as claim
-use Rattle.hex.specs.Text.{farthest, loads, Piece, refused, Said, said}
-use Rattle.hex.specs.Written.{written, written_length}
-use Rattle.hex.proofs.AccountedLaws.{accounted}
-use Rattle.hex.proofs.WrittenLaws.{written-long}
+use Rattle.hexfile.specs.Accounted as claim
+use Rattle.hexfile.specs.Text.{farthest, loads, Piece, refused, Said, said}
+use Rattle.hexfile.specs.Written.{written, written_length}
+use Rattle.hexfile.proofs.AccountedLaws.{accounted}
+use Rattle.hexfile.proofs.WrittenLaws.{written-long}
 use Rattle.hexread.specs.Answers.{applied, Fits, judged_as}
 use Rattle.hexread.specs.declared.text.Judged.{Judged}
 use Rattle.hexread.specs.declared.text.Judged.TheVariants.{Loads, Malformed, WrongSum}

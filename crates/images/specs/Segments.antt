@@ -1,7 +1,7 @@
 -- What the checks of a load and of a dump come to.
 -- Assumes nothing.
 use Rattle.std.specs.Prelude.{◌≡◌, true, List, ℕ, ◌+◌, ◌*◌, ◌≤◌, length}
-use Rattle.hex.specs.Text.{farthest}
+use Rattle.hexfile.specs.Text.{farthest}
 use Rattle.layout.specs.declared.entry.Entry.{Entry}
 use Rattle.checks.specs.Holds.{request_holds}
 use Rattle.checks.specs.Refusals.{stop_as}

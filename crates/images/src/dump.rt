@@ -1,7 +1,7 @@
 // Dump: a segment is written as a text of Intel HEX.
 ghost use Rattle.std.specs.Prelude.{◌≡◌, List, ℕ, ◌+◌, ◌*◌, ◌≤◌, ◌&&◌, leb, drop, length, take};
 ghost use Rattle.std.proofs.lemmas.List.Edits.{sets};
-ghost use Rattle.hex.specs.Written.{written, written_length};
+ghost use Rattle.hexfile.specs.Written.{written, written_length};
 ghost use Rattle.tokens.specs.Token as tokens;
 ghost use Rattle.checks.specs.Holds.{settings_hold};
 ghost use Rattle.checks.specs.Shifts.{shift_as};

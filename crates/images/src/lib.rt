@@ -1,4 +1,6 @@
 // Load images: texts of Intel HEX.
+#![tactic(auto)]
+
 pub mod dump;
 pub mod image;
 pub mod load;

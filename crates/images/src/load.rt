@@ -1,6 +1,6 @@
 // Load: a text of Intel HEX is read into a segment.
 ghost use Rattle.std.specs.Prelude.{◌≡◌, ◌+◌, ◌*◌, ◌≤◌, length};
-ghost use Rattle.hex.specs.Text.{said};
+ghost use Rattle.hexfile.specs.Text.{said};
 ghost use Rattle.hexread.specs.Answers.{Fits};
 ghost use Rattle.tokens.specs.Token as tokens;
 ghost use Rattle.checks.specs.Holds.{settings_hold};

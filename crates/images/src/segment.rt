@@ -17,7 +17,7 @@ use table::state::StateWords;
 use tokens::token::Named;
 
 // What the checks come to: where the request stops, or the segment's base and length.
-#[derive(Drop)]
+#[derive(Clone, Copy)]
 pub enum Segment {
     Stop(Refusal),
     At { base: u64, length: u64 },
@@ -25,7 +25,7 @@ pub enum Segment {
 
 // What a load or a dump comes to: where it stops, or how many bytes its answer has at the buffer's
 // front.
-#[derive(Drop)]
+#[derive(Clone, Copy)]
 pub enum Imaged {
     Stop(Refusal),
     Done(u64),

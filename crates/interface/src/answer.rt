@@ -12,7 +12,7 @@ use rulings::reply::{Reply, Tokens};
 pub const ANSWER_SIZE: usize = 48;
 
 // The words of an answer. `place` tells which entry was bad.
-#[derive(Drop)]
+#[derive(Clone, Copy)]
 pub struct AnswerWords {
     pub refusal: u64,
     pub place: u64,

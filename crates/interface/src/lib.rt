@@ -1,4 +1,6 @@
 // The interface for C and Rust as bytes: requests, states and answers. specs/ has what a call does.
+#![tactic(auto)]
+
 pub mod answer;
 pub mod request;
 pub mod state;

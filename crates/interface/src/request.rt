@@ -11,7 +11,7 @@ use rulings::request::{Image, Request, Way};
 pub const REQUEST_SIZE: usize = 64;
 
 // What is asked: a request, or nothing that the machine has.
-#[derive(Drop)]
+#[derive(Clone, Copy)]
 pub enum Asked {
     Known(Request),
     Unknown,
@@ -19,6 +19,7 @@ pub enum Asked {
 
 // The operation's number picks the request. Words that it does not use are not looked at. The minute
 // is that of an access.
+#[tactic(auto, unfolding(crate::specs::Exported::picked))]
 fn pick(
     operation: u64,
     token: u64,

@@ -8,6 +8,7 @@ ghost use Rattle.interface.specs.Exported.{word_bytes};
 use bits::word::{get_low, put_low};
 
 // Word i.
+#[tactic(auto, unfolding(bits::specs::SipHash::word))]
 pub fn word_at(part: &[u8], i: usize) -> u64
     requires { 8 * i + 8 ≤ length part.now }
     ensures { result ≡ word part.now i }
@@ -28,6 +29,7 @@ fn put_word(part: &mut [u8], i: usize, w: u64)
 }
 
 // The words one after the other, which fill the part.
+#[tactic(auto, using(crate::proofs::WordLaws::one_more_lem, crate::proofs::WordLaws::all_stored), unfolding(crate::specs::Exported::word_bytes))]
 pub fn put_words(part: &mut [u8], words: &[u64])
     requires { length part.old ≡ 8 * length words.now }
     ensures { part.new ≡ word_bytes words.now }

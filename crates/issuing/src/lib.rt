@@ -1,2 +1,4 @@
 // Issuing: the writes that issue entries.
+#![tactic(auto)]
+
 pub mod writes;

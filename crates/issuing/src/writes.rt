@@ -15,7 +15,7 @@ use layout::entry::Words;
 use table::state::StateWords;
 
 // The state that an issue leaves, and the token that it gives.
-#[derive(Drop)]
+#[derive(Clone, Copy)]
 pub struct Issued {
     pub state: StateWords,
     pub token: u64,
@@ -66,7 +66,7 @@ pub fn reissue(
 }
 
 // The state that two issues leave, and their tokens.
-#[derive(Drop)]
+#[derive(Clone, Copy)]
 pub struct IssuedTwo {
     pub state: StateWords,
     pub first: u64,

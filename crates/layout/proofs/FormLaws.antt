@@ -1,4 +1,4 @@
--- Ill-formed entries: the cases of a type, and the round trip of what is well_formed.
+-- Ill-formed entries: the cases of a type, and the round trip of what is well-formed.
 -- Assumes nothing.
 use mathlib.Core.Path.{◌≡◌, refl, sym, ◌∙◌, ap, subst}
 use mathlib.Core.Bool.{Bool, true, false, not, ◌&&◌, ◌||◌, beq}

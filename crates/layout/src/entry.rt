@@ -28,7 +28,7 @@ const TWO_55: u64 = 1 << 55;
 const TWO_61: u64 = 1 << 61;
 
 // An entry: every field of every type. A field that its type does not have is zero.
-#[derive(Drop)]
+#[derive(Clone, Copy)]
 pub struct Entry {
     // The type: 0 free, 1 direct, 2 indirect, 3 paged out.
     pub kind: u8,
@@ -56,7 +56,7 @@ pub struct Entry {
 }
 
 // The four words of an entry, the high word first.
-#[derive(Drop)]
+#[derive(Clone, Copy)]
 pub struct Words {
     pub a: u64,
     pub b: u64,
@@ -188,6 +188,7 @@ fn paged_words(e: Entry) -> Words
 }
 
 // The words of a free entry that keeps a tag.
+#[tactic(auto, using(crate::proofs::EntryLaws::free_words))]
 pub fn free_words(tag: u16) -> Words
     ensures { words_number result ≡ entry_number (freed tag) }
 {
@@ -237,6 +238,7 @@ fn end_of(kind: u8, d: u64) -> Entry
 }
 
 // The direct entry that four words hold.
+#[tactic(auto, using(crate::proofs::EntryLaws::direct_read_lem), unfolding(crate::proofs::EntryLaws::direct_read))]
 fn direct_of(w: Words) -> Entry
     ensures { result ≡ direct_of (words_number w) }
 {
@@ -254,6 +256,7 @@ fn direct_of(w: Words) -> Entry
 }
 
 // The indirect entry that four words hold.
+#[tactic(auto, using(crate::proofs::EntryLaws::indirect_read_lem), unfolding(crate::proofs::EntryLaws::indirect_read))]
 fn indirect_of(w: Words) -> Entry
     ensures { result ≡ indirect_of (words_number w) }
 {
@@ -271,6 +274,7 @@ fn indirect_of(w: Words) -> Entry
 }
 
 // The entry that is paged out that four words hold.
+#[tactic(auto, using(crate::proofs::EntryLaws::paged_read_lem), unfolding(crate::proofs::EntryLaws::paged_read))]
 fn paged_of(w: Words) -> Entry
     ensures { result ≡ paged_of (words_number w) }
 {
@@ -314,6 +318,7 @@ pub fn tag_of(w: Words) -> u16
 }
 
 // The others go by the type.
+#[tactic(auto, using(crate::proofs::EntryLaws::direct_at, crate::proofs::EntryLaws::indirect_at, crate::proofs::EntryLaws::no_base_at), unfolding(crate::proofs::EntryLaws::direct_read, crate::proofs::EntryLaws::indirect_read))]
 pub fn base_of(w: Words) -> u32
     ensures { result ≡ (entry_of (words_number w)).base }
 {
@@ -444,6 +449,7 @@ fn packable(e: Entry) -> bool
 
 // The entry is written to a part of 32 bytes if its type has a layout and its fields fit; else
 // the part keeps its bytes. Says whether it was written.
+#[tactic(auto, using(crate::proofs::EntryLaws::packable_fits), unfolding(crate::specs::Entry::written))]
 pub fn write(part: &mut [u8], e: Entry) -> bool
     ensures value { result ≡ writable part.old e }
     ensures part_after { part.new ≡ written part.old e }

@@ -1,14 +1,13 @@
 -- Leases one after the other: what is known of the first ones, with one more.
 -- Assumes nothing.
-use mathlib.Core.Path.{◌≡◌, refl, sym, ◌∙◌, ap}
+use mathlib.Core.Path.{◌≡◌, refl, sym, ◌∙◌}
 use mathlib.Core.Bool.{Bool, true, false, not, ◌&&◌, ◌||◌, cond}
 use mathlib.Core.List.{List, [], ◌∷◌, ◌++◌}
-use Prim.Native.Nat.{ℕ, ◌+◌, ◌/◌, ◌≤◌}
+use Prim.Native.Nat.{ℕ, ◌+◌, ◌/◌}
 use native.Mathlib.Numerals.{add-one}
 use native.Mathlib.Omega.{arith}
 use lib.ListN.{length}
 use Rattle.leases.specs.Lease.{admits, all_sound, covers, every, first_leases, is_for, is_open, is_sound, judged, lease_at, leases_of, some}
-use Rattle.leases.specs.declared.lease.Window.{Window}
 use Rattle.leases.specs.declared.lease.Window.TheVariants.{Closed, Open, Unsound}
 use Rattle.leases.specs.declared.lease.Lease.{Lease}
 

@@ -2,15 +2,15 @@
 -- Assumes nothing.
 use mathlib.Core.Path.{◌≡◌, refl, sym, ◌∙◌, ap, subst}
 use mathlib.Core.Logic.{◌⊎◌, inl, inr}
-use mathlib.Core.Bool.{Bool, true, false, true≢false, not, ◌&&◌, ◌||◌, cond}
+use mathlib.Core.Bool.{Bool, true, false, true≢false, not, ◌&&◌, ◌||◌}
 use mathlib.Core.List.{List, [], ◌∷◌, ◌++◌, Memᴰ}
-use Prim.Native.Nat.{ℕ, zero, suc, ◌+◌, ◌-◌, ◌/◌, ◌%◌, ◌≤◌, ◌<◌}
+use Prim.Native.Nat.{ℕ, zero, suc, ◌+◌, ◌-◌, ◌/◌, ◌≤◌, ◌<◌}
 use native.Mathlib.Nat.{mod-eq_of_lt}
 use native.Mathlib.Omega.{arith}
 use native.Mathlib.Decide.{dec_lt}
-use lib.Dec.{eqb, leb, ltb}
+use lib.Dec.{leb, ltb}
 use lib.ListN.{length}
-use borrow.Author.Tests.{eq-eqb, eqb-false, eqb-true, le-leb, le-ltb, leb-true, lt-leb, lt-ltb, ltb-true, ne_eqb, not-true}
+use borrow.Author.Tests.{eq-eqb, eqb-false, eqb-true, le-leb, le-ltb, lt-leb, lt-ltb, ltb-true, ne_eqb, not-true}
 use Rattle.bits.proofs.TestLaws.{both}
 use Rattle.leases.specs.Lease.{admits, all_sound, covers, every, first_leases, is_for, is_open, is_sound, lease_at, leases_of, some, week}
 use Rattle.leases.specs.Windows.{Admits, AllSound, Complement, exchanged, For, Listed, Opens, Round, since, Sound, Without}
@@ -28,6 +28,7 @@ among t (suc n) i h = by (dec_lt i n) (among t n i)
     last (k ∷ ls) l = Memᴰ.tail (last ls l)
 
     front : (ls : List Lease) (l k : Lease) → Memᴰ k ls → Memᴰ k (ls ++ (l ∷ []))
+    front [] l k m = elim m [ ]
     front (x ∷ ls) l k (Memᴰ.head e) = Memᴰ.head e
     front (x ∷ ls) l k (Memᴰ.tail m) = Memᴰ.tail (front ls l k m)
 
@@ -135,6 +136,7 @@ round l h i w = let s = sound_means l h in by s (dec_lt l.closing l.opening) (de
 -- ---- several leases
 
 some_in : (p : Lease → Bool) (ls : List Lease) (l : Lease) → Memᴰ l ls → p l ≡ true → some p ls ≡ true
+some_in p [] l m h = elim m [ ]
 some_in p (k ∷ ls) l (Memᴰ.head e) h = rw (← e, h)
 some_in p (k ∷ ls) l (Memᴰ.tail m) h = rw (some_in p ls l m h) (or_true (p k))
   where
@@ -192,6 +194,7 @@ unfolding all_sound
 all_sound_lem ls = record { each = each ls; all = all ls }
   where
     each : (ls : List Lease) → every is_sound ls ≡ true → (l : Lease) → Memᴰ l ls → Sound l
+    each [] h l m = elim m [ ]
     each (k ∷ ls) h l (Memᴰ.head e) = subst Sound (sym e) (sound_means k (both (is_sound k) (every is_sound ls) h).0)
     each (k ∷ ls) h l (Memᴰ.tail m) = each ls (both (is_sound k) (every is_sound ls) h).1 l m
 

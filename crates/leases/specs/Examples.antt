@@ -1,6 +1,6 @@
 -- Leases as bytes, and minutes of their windows.
 -- Assumes nothing.
-use Rattle.std.specs.Prelude.{◌≡◌, Bool, true, false, List, [], ◌∷◌, map, ℕ}
+use Rattle.std.specs.Prelude.{◌≡◌, true, false, List, [], ◌∷◌, map, ℕ}
 use Rattle.leases.specs.Lease.{covers, is_open, is_sound, leases_of}
 use Rattle.leases.specs.declared.lease.Lease.{Lease}
 

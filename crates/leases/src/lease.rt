@@ -12,7 +12,7 @@ pub const LEASES_MOST: usize = 512;
 pub const WEEK: u64 = 10080;
 
 // The token of this number and tag is open from a minute of the week on and up to another.
-#[derive(Drop)]
+#[derive(Clone, Copy)]
 pub struct Lease {
     pub number: u64,
     pub tag: u64,
@@ -21,7 +21,7 @@ pub struct Lease {
 }
 
 // What leases come to for a token at a minute.
-#[derive(Drop)]
+#[derive(Clone, Copy)]
 pub enum Window {
     // One of them, whichever token it is for, has equal minutes or one beyond the week.
     Unsound,
@@ -55,6 +55,7 @@ fn number_at(leases: &[u8], i: usize) -> u64
 }
 
 // Lease i.
+#[tactic(auto, unfolding(crate::specs::Lease::lease_at))]
 fn lease_at(leases: &[u8], i: usize) -> Lease
     requires { 8 * i + 8 ≤ length leases.now }
     ensures { result ≡ lease_at leases.now i }
@@ -76,6 +77,7 @@ fn is_sound(l: Lease) -> bool
 }
 
 // The minute lies in its window, which runs over the week's end if it opens later than it closes.
+#[tactic(auto, unfolding(crate::specs::Lease::covers))]
 fn covers(l: Lease, minute: u64) -> bool
     ensures { result ≡ covers l minute }
 {

@@ -1,2 +1,4 @@
 // Lock and unlock.
+#![tactic(auto)]
+
 pub mod lock;

@@ -1,4 +1,4 @@
--- Small laws of tests, of stores in the table, of links, owners and well_formed entries.
+-- Small laws of tests, of stores in the table, of links, owners and well-formed entries.
 -- Assumes nothing.
 use mathlib.Core.Path.{◌≡◌, refl, sym, ◌∙◌}
 use mathlib.Core.Logic.{◌≢◌}
@@ -99,7 +99,7 @@ owner_unique (itself k) (above l o) = absurd (omega (arith, l.indirect))
 owner_unique (above l o) (itself k) = absurd (omega (arith, l.indirect))
 owner_unique (above l o) (above l' o') = owner_unique o o'
 
--- ---- well_formed entries
+-- ---- well-formed entries
 
 -- the segment of one that has one is not empty and lies in memory
 pub range : (m : ℕ) (e : Entry) → Present e → ill_formed m e ≡ false → (0 < e.length) × (e.base + e.length ≤ m)

@@ -13,7 +13,6 @@ use Rattle.bits.proofs.TestLaws.{both}
 use Rattle.layout.specs.declared.entry.Entry.{Entry}
 use Rattle.tokens.specs.Permissions.{within}
 use Rattle.tokens.specs.Token.{named}
-use Rattle.machine.specs.Images.{most_text}
 use Rattle.machine.specs.Line.{ancestor, itself}
 use Rattle.machine.specs.MachineSystem.{Accepted}
 use Rattle.machine.specs.Operations.{book, carried, Decision, entire, Fill, front, Grant, grant, named_entry, unfilled}

@@ -12,7 +12,7 @@ use lib.Bits.{and_le_l}
 use lib.Dec.{leb, ltb, eqb}
 use lib.ListN.{length, length-replicate}
 use borrow.Author.Tests.{eqb-false, eqb-true, leb-true, ltb-false, ltb-true, ne_eqb, not-true}
-use Rattle.hex.specs.Text.{farthest}
+use Rattle.hexfile.specs.Text.{farthest}
 use Rattle.layout.specs.Entry.{direct_fields, direct_widths, recounted, Storable}
 use Rattle.bits.specs.Fields.{Fit}
 use Rattle.tokens.specs.Permissions.{within, X}
@@ -72,10 +72,16 @@ owner_open t l u e o h =
 
 -- what one store touches, whatever its bytes, and a transfer
 once-stored : {P : Type 0} → (P ⊎ ⊥) ⊎ ⊥ → P
+once-stored {P = P} (inl (inr x'')) = elim x'' [ ]
+once-stored {P = P} (inr x'') = elim x'' [ ]
 once-stored (inl (inl h)) = h
 
 -- an access touches bytes of the segment alone
 touched : (w : Access) (e : Entry) (o : ℕ) (b : List ℕ) → Passed (asks w o b e).bounds → (x : ℕ) → Touches (effect_by w e o b) x → In e x
+touched (moving reading) e o b p x (inl h) = elim h [ ]
+touched (moving fetching) e o b p x (inl h) = elim h [ ]
+touched loading e o b p x (inr h) = elim h [ ]
+touched dumping e o b p x (inl h) = elim h [ ]
 touched (moving reading) e o b p x (inr h) = omega (arith, leb-true (o + length b) e.length p.0)
 touched (moving writing) e o b p x h = omega (arith, once-stored h, leb-true (o + length b) e.length p.0)
 touched (moving fetching) e o b p x (inr h) = omega (arith, leb-true (o + length b) e.length p.0)
@@ -710,6 +716,8 @@ module _ (m : ℕ) (s : State) (t : List ℕ) (inv : Inv m s t) where
     where
       -- what is known is not looked for in memory
       by : (o : Known) (x : ℕ) → Touches (record { stores = []; fill = fill_with o }) x → ⊥
+      by (exactly bs) x (inl h) = elim h [ ]
+      by (up_to bs) x (inl h) = elim h [ ]
       by (exactly bs) x (inr h) = omega arith
       by (up_to bs) x (inr h) = omega arith
   deed_granted (page_in j k u c) b nr h =

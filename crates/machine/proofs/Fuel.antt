@@ -26,7 +26,7 @@ use Rattle.machine.proofs.TableLaws.{vacated-other}
 
 -- ---- up a line
 
--- the first entry of a line that is not ill-formed is well_formed
+-- the first entry of a line that is not ill-formed is well-formed
 pub line_formed_lem : (m : ℕ) (t : List ℕ) (n : ℕ) → not (is_ill (line_of m t n)) ≡ true → ill_formed m (at t n) ≡ false
 unfolding walk
 line_formed_lem m t n =
@@ -72,7 +72,7 @@ walk-owner (suc f) m t n k =
     P : Line → Type 0
     P x = Live x → x ≡ owner (owner_of x)
 
--- and the owner is well_formed
+-- and the owner is well-formed
 pub walk-formed : (f m : ℕ) (t : List ℕ) (n : ℕ) → Present (at t n) → Live (walk f m t n) → ill_formed m (at t (owner_of (walk f m t n))) ≡ false
 unfolding walk
 walk-formed zero m t n k = λ h. absurd (false≢true h.1)

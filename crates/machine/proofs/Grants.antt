@@ -1,7 +1,7 @@
 -- What every granted request has, on whatever machine: its effect fits, its tokens' encoding is one of four, and what it issues anew lies in the table.
 -- Assumes nothing.
 use mathlib.Core.Path.{◌≡◌, sym, ◌∙◌}
-use mathlib.Core.Logic.{◌≢◌, ◌⊎◌, inl, inr}
+use mathlib.Core.Logic.{◌⊎◌, inl, inr}
 use mathlib.Core.Bool.{true, false}
 use mathlib.Core.List.{List, [], ◌∷◌}
 use Prim.Native.Nat.{ℕ, ◌+◌, ◌*◌, ◌≤◌, ◌<◌}
@@ -9,10 +9,10 @@ use native.Mathlib.Omega.{arith}
 use lib.Dec.{eqb}
 use lib.ListN.{drop, length, length-drop, length-take, take}
 use borrow.Author.Tests.{eqb-true, leb-true, ltb-true}
-use Rattle.hex.specs.Text.{loads, Piece, refused, Said, said}
-use Rattle.hex.specs.Written.{written}
-use Rattle.hex.proofs.DataLaws.{AllData, said-bytes, SaidBytes, written-bytes}
-use Rattle.hex.proofs.WrittenLaws.{written-long}
+use Rattle.hexfile.specs.Text.{loads, Piece, refused, Said, said}
+use Rattle.hexfile.specs.Written.{written}
+use Rattle.hexfile.proofs.DataLaws.{AllData, said-bytes, SaidBytes, written-bytes}
+use Rattle.hexfile.proofs.WrittenLaws.{written-long}
 use Rattle.layout.specs.Form.{ill_formed}
 use Rattle.tokens.specs.Token.{named}
 use Rattle.layout.specs.declared.entry.Entry.{Entry}
@@ -25,7 +25,7 @@ use Rattle.machine.specs.Stops.{asks, checks}
 use Rattle.machine.specs.Writes.{give}
 use Rattle.bits.specs.Bytes.{AllBytes}
 use Rattle.machine.proofs.Basics.{present, Present, range}
-use Rattle.bits.proofs.ByteLists.{bytes_drop, bytes_take, bytes-zeros}
+use Rattle.bits.proofs.ByteLists.{bytes-zeros}
 use Rattle.machine.proofs.Choices.{by_cond}
 use Rattle.machine.proofs.Decided.{access-passed, Passed}
 use Rattle.machine.proofs.Fuel.{line_formed_lem}

@@ -16,10 +16,10 @@ use Rattle.machine.specs.MachineSystem.{Accepted}
 use Rattle.machine.specs.Operations.{carried, Decision, Fill, grant}
 use Rattle.machine.specs.Requests.{Call}
 use Rattle.machine.specs.Rows.{row}
-use Rattle.machine.specs.Steps.{answer, blind, decide, decision, limited, Machine, pass, refused, stop, telling, told_length, verdict}
+use Rattle.machine.specs.Steps.{answer, blind, decide, decision, limited, Machine, pass, stop, telling, told_length, verdict}
 use Rattle.machine.specs.Stops.{checks, lastly, refusal_number}
 use Rattle.machine.proofs.Choices.{by_cond}
-use Rattle.machine.proofs.Decided.{Course, course, early, fits_made, late, made_fits, made-stops, not_told, passing, settled-told, tells, through, told}
+use Rattle.machine.proofs.Decided.{Course, course, early, fits_made, late, made_fits, made-stops, not_told, passing, settled-told, tells, through}
 use Rattle.machine.proofs.Rows.{late_room, leaves, moves, Plain, plain}
 
 -- what the test does not find is not there

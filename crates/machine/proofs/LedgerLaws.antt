@@ -15,6 +15,7 @@ issued_by (v ∷ l) = issued_by l ++ v.issued
 
 -- a token that returned was issued again: the exception is no wider than 01's
 pub issued_again : (k : Name) (v : Event) (since : List Event) → Returned k v since → Memᴰ k (issued_by since)
+issued_again k v [] x' = elim x' [ ]
 issued_again k v (w ∷ since) (inl r) = Memᴰ.append_right (issued_by since) r.0
 issued_again k v (w ∷ since) (inr r) = Memᴰ.append_left w.issued (issued_again k v since r)
 

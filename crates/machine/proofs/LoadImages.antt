@@ -12,25 +12,24 @@ use lib.Seq.{drop_at, sets, sets-eq, take_at}
 use borrow.Author.Tests.{eq-eqb, eqb-true, le-leb, leb-true, ne_eqb}
 use Rattle.bits.specs.Bytes.{AllBytes}
 use Rattle.bits.proofs.ByteLists.{bytes_drop, bytes_take}
-use Rattle.hex.specs.Accounted as claim
-use Rattle.hex.specs.Restored as text
-use Rattle.hex.specs.Text.{apply, farthest, loads, Piece, refused, said}
-use Rattle.hex.specs.Written.{written, written_length}
-use Rattle.hex.proofs.AccountedLaws.{accounted}
-use Rattle.hex.proofs.WrittenLaws.{restored, written-long}
+use Rattle.hexfile.specs.Accounted as claim
+use Rattle.hexfile.specs.Restored as text
+use Rattle.hexfile.specs.Text.{apply, farthest, loads, Piece, said}
+use Rattle.hexfile.specs.Written.{written, written_length}
+use Rattle.hexfile.proofs.AccountedLaws.{accounted}
+use Rattle.hexfile.proofs.WrittenLaws.{restored, written-long}
 use Rattle.layout.specs.Form.{ill_formed}
 use Rattle.layout.specs.declared.entry.Entry.{Entry}
 use Rattle.tokens.specs.Permissions.{within}
 use Rattle.tokens.specs.Token.{named}
 use Rattle.machine.specs.Images.{most_text, pieces_of, spares}
 use Rattle.machine.specs.Line.{is_paged}
-use Rattle.machine.specs.LoadImages.{AsAccesses, dump_call, Dumped, Dumps, load_call, Loaded, Loads, MayDump, MayLoad, Restores, segment_of, text_in}
+use Rattle.machine.specs.LoadImages.{AsAccesses, dump_call, Dumps, load_call, Loads, MayDump, MayLoad, Restores, segment_of}
 use Rattle.machine.specs.MachineSystem.{Accepted}
 use Rattle.machine.specs.Operations.{Decision, effect_by, named_entry, number_of}
-use Rattle.machine.specs.Parts.{State}
-use Rattle.machine.specs.Requests.{Access, access, Call, dump, dumping, load, loading, moving, reading, Request, right_for, Shift, writing}
+use Rattle.machine.specs.Requests.{Access, access, Call, dump, dumping, load, loading, moving, reading, right_for, Shift, writing}
 use Rattle.machine.specs.Segments.{In}
-use Rattle.machine.specs.Steps.{answer, decide, decision, Machine, pass, step, stored, verdict}
+use Rattle.machine.specs.Steps.{answer, Machine, step}
 use Rattle.machine.specs.Stops.{asks, checks}
 use Rattle.machine.specs.WholeDerive.{access_call, length_of}
 use Rattle.machine.proofs.Basics.{present, range}
@@ -80,6 +79,7 @@ loads_so σ k u φ b ok =
     }
   where
     touched : (x : ℕ) → Touches (effect_by loading (named_entry σ.table k) (named k).offset b) x → farthest (pieces_of b) ≤ (named_entry σ.table k).length → In (named_entry σ.table k) x
+    touched x (mathlib.Core.Logic.inr x3) ends = elim x3 [ ]
     touched x (inl h) ends = omega (arith, placed_touches (named_entry σ.table k).base (pieces_of b) x h)
 
 -- a text at the front of a buffer

@@ -96,6 +96,7 @@ module _ (s : State) (t : List ℕ) (n f : ℕ) where
 
 -- what its effect touches
 pub out-touched : (t : List ℕ) (n f c x : ℕ) → Touches (grant_page_out t n f c).effect x → In (at t n) x
+out-touched t n f c x (inl (inr x3)) = elim x3 [ ]
 out-touched t n f c x (inl (inl h)) = (h.0, omega (arith, simp (length-replicate) at h.1))
 out-touched t n f c x (inr h) = h
 
@@ -142,4 +143,6 @@ module _ (s : State) (t : List ℕ) (n k : ℕ) where
       }
 
 pub in_touched : (t : List ℕ) (n k c : ℕ) (b : List ℕ) → length b ≡ (at t k).length → (x : ℕ) → Touches (grant_page_in t n k c b).effect x → In (at t k) x
+in_touched t n k c b l x (inl (inr x3)) = elim x3 [ ]
+in_touched t n k c b l x (inr x3) = elim x3 [ ]
 in_touched t n k c b l x (inl (inl h)) = omega arith

@@ -1,19 +1,20 @@
 -- Pieces of data that are placed in a segment: its bytes are those that the pieces make of it.
 -- Assumes nothing.
-use mathlib.Core.Path.{◌≡◌, refl, sym, ap, ◌∙◌}
+use mathlib.Core.Path.{◌≡◌, refl, ap, ◌∙◌}
 use mathlib.Core.Logic.{inl, inr}
 use mathlib.Core.List.{List, [], ◌∷◌, ◌++◌}
 use Prim.Native.Nat.{ℕ, zero, suc, ◌+◌, ◌≤◌, ◌<◌}
 use native.Mathlib.Omega.{arith}
 use lib.ListN.{drop, length, length-drop, length-set, length-take, set, take, take-append-drop}
 use lib.Seq.{drop_at, length-sets, sets, take_at}
-use Rattle.hex.specs.Text.{apply, farthest, Piece}
+use Rattle.hexfile.specs.Text.{apply, farthest, Piece}
 use Rattle.machine.specs.Operations.{placed}
 use Rattle.machine.specs.Steps.{stored}
 use Rattle.machine.proofs.Fates.{Stored}
 
 -- they lie before the end of what ends last
 pub placed_touches : (a : ℕ) (ps : List Piece) (x : ℕ) → Stored (placed a ps) x → (a ≤ x) × (x < a + farthest ps)
+placed_touches a [] x x3 = elim x3 [ ]
 placed_touches a (p ∷ ps) x (inl h) = omega arith
 placed_touches a (p ∷ ps) x (inr h) = omega (arith, placed_touches a ps x h)
 

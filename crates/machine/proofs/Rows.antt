@@ -11,10 +11,10 @@ use lib.ListN.{drop, length, take}
 use borrow.Author.Tests.{eqb-true, le-leb, ltb-true}
 use Rattle.machine.specs.Operations.{entire, Fill, front, grant, unfilled}
 use Rattle.machine.specs.Parts.{begun, spent, State}
-use Rattle.machine.specs.Requests.{accessing, Call, clone, create, derive, dumping, execute_only, fetching, loading, lock, Look, look, merge, moving, page_in, page_out, reading, release, Request, reset, revoke, task_of, unlock, writing}
+use Rattle.machine.specs.Requests.{accessing, clone, create, derive, dumping, execute_only, fetching, loading, lock, look, merge, moving, page_in, page_out, reading, release, Request, reset, revoke, task_of, unlock, writing}
 use Rattle.machine.specs.Rows.{Among, ended, numbers, Ordered, row, Tasks}
 use Rattle.machine.specs.Steps.{pass, stop, Verdict, verdict}
-use Rattle.machine.specs.Stops.{at_request, at_room, Check, checks, lastly, look_places, need, need_all, nonces_left, Places, places, refusal_number, settings, sizes}
+use Rattle.machine.specs.Stops.{at_request, at_room, Check, checks, lastly, need, need_all, nonces_left, Places, places, refusal_number, settings, sizes}
 use Rattle.machine.specs.Writes.{opened}
 use Rattle.machine.proofs.Choices.{by_both, by_cond}
 use Rattle.machine.proofs.Decided.{and_then, answer-told, needed, Passed, passed-split, spared, told, true-split, verdict_append}

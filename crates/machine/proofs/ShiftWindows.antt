@@ -13,7 +13,6 @@ use Rattle.leases.specs.Lease.{all_sound, first_leases, is_open, leases_of, week
 use Rattle.leases.specs.Windows.{Admits, Without}
 use Rattle.leases.proofs.Windows.{all_sound_lem, opens}
 use Rattle.tokens.specs.Token.{named}
-use Rattle.machine.specs.MachineSystem.{Accepted}
 use Rattle.machine.specs.Operations.{Grant, grant, number_of}
 use Rattle.machine.specs.Parts.{State}
 use Rattle.machine.specs.Requests.{Access, accessing, clone, create, derive, dumping, execute_only, loading, lock, look, merge, moving, no_shift, page_in, page_out, release, Request, reset, revoke, Shift, unlock}

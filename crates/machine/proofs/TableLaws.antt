@@ -85,7 +85,7 @@ in_table t n h = go (dec_lt n (size t))
     go (yes i) = i
     go (no i) = absurd (h (ap (λ (e : Entry). e.kind) (at_out t n (omega arith))))
 
--- one that is well_formed can be packed with nothing lost
+-- one that is well-formed can be packed with nothing lost
 pub at_storable : (m : ℕ) (t : List ℕ) (n : ℕ) → (at t n).kind ≢ 0 → ill_formed m (at t n) ≡ false → Storable (at t n)
 unfolding entry_of
 at_storable m t n f h =

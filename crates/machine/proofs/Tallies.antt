@@ -6,7 +6,7 @@ use mathlib.Core.List.{List}
 use Prim.Native.Nat.{ℕ, ◌+◌, ◌≤◌, ◌<◌}
 use native.Mathlib.Omega.{arith}
 use lib.Dec.{eqb, ltb}
-use borrow.Author.Tests.{eqb-false, eqb-true, ltb-false, ltb-true}
+use borrow.Author.Tests.{eqb-false, eqb-true, ltb-false}
 use Rattle.layout.specs.Entry.{freed, Storable}
 use Rattle.layout.specs.declared.entry.Entry.{Entry}
 use Rattle.machine.specs.FreeTotal.{free_in_all, vacant}

@@ -1,4 +1,4 @@
--- What the machine writes is packed with nothing lost, and is well_formed.
+-- What the machine writes is packed with nothing lost, and is well-formed.
 -- Assumes nothing.
 use mathlib.Core.Path.{◌≡◌, refl, sym, ap, ◌∙◌}
 use mathlib.Core.Logic.{◌≢◌}
@@ -25,7 +25,7 @@ use Rattle.machine.specs.Operations.{token_of}
 use Rattle.machine.specs.Parts.{most_memory, spent, State}
 use Rattle.machine.proofs.Basics.{Present, some_false}
 
--- packed with nothing lost, and well_formed in a memory of m bytes; Lockable if it is direct or paged out, counted if it is indirect
+-- packed with nothing lost, and well-formed in a memory of m bytes; Lockable if it is direct or paged out, counted if it is indirect
 pub record Good (m : ℕ) (e : Entry) : Type 0 where
   pub storable : Storable e
   pub formed : ill_formed m e ≡ false

@@ -53,7 +53,7 @@ pub record Sound (σ : Machine) : Type 0 where
   -- "and no byte has two owners." Each has one.
   pub one : (n k x : ℕ) → Has σ.table n x → Has σ.table k x → n ≡ k
   pub some : (x : ℕ) → x < length σ.memory → Owned σ.table x
-  -- an entry that is not free is well_formed, can be packed with nothing lost, and has a nonce that was taken
+  -- an entry that is not free is well-formed, can be packed with nothing lost, and has a nonce that was taken
   pub formed : (n : ℕ) → (at σ.table n).kind ≢ 0 → ill_formed (length σ.memory) (at σ.table n) ≡ false
   pub storable : (n : ℕ) → (at σ.table n).kind ≢ 0 → Storable (at σ.table n)
   pub below : (n : ℕ) → (at σ.table n).kind ≢ 0 → (at σ.table n).nonce < σ.state.next

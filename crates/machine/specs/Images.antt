@@ -1,7 +1,7 @@
 -- Load images (02, paper 2): what a text of Intel HEX comes to in a segment. `hex` says what a text says and which text is written.
 -- Assumes nothing.
 use Rattle.std.specs.Prelude.{Bool, not, List, [], ℕ, eqb, leb, length}
-use Rattle.hex.specs.Text.{loads, Piece, refused, Said, said}
+use Rattle.hexfile.specs.Text.{loads, Piece, refused, Said, said}
 
 -- "at most 65,536 bytes of text, else 1"
 abbrev pub most_text : ℕ

@@ -2,8 +2,8 @@
 -- Assumes nothing.
 use Rattle.std.specs.Prelude.{◌≡◌, List, [], ◌∷◌, ℕ, ◌≤◌, drop, get_or, length, take}
 use Rattle.bits.specs.Bytes.{AllBytes}
-use Rattle.hex.specs.Text.{apply, farthest, loads, Piece, said}
-use Rattle.hex.specs.Written.{written, written_length}
+use Rattle.hexfile.specs.Text.{apply, farthest, loads, Piece, said}
+use Rattle.hexfile.specs.Written.{written, written_length}
 use Rattle.tokens.specs.Token.{named}
 use Rattle.machine.specs.MachineSystem.{Accepted}
 use Rattle.machine.specs.Operations.{named_entry}

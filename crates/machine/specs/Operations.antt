@@ -1,10 +1,10 @@
 -- What a granted request does (01, "Operations"): the writes into state and table, and an effect on memory and buffer. What is granted sees the memory's length
 -- and no byte of memory; its effect is carried out afterwards.
 -- Assumes nothing.
-use Rattle.std.specs.Prelude.{Bool, true, false, not, ◌&&◌, cond, List, [], ◌∷◌, ℕ, zero, suc, ◌+◌, ◌*◌, ◌-◌, eqb, leb, drop, length, replicate, take}
+use Rattle.std.specs.Prelude.{Bool, true, false, not, ◌&&◌, cond, List, [], ◌∷◌, ℕ, zero, suc, ◌+◌, ◌-◌, eqb, leb, length, replicate}
 use Rattle.std.specs.Int.Bits.{bit_and}
-use Rattle.hex.specs.Text.{Piece}
-use Rattle.hex.specs.Written as hex
+use Rattle.hexfile.specs.Text.{Piece}
+use Rattle.hexfile.specs.Written as hex
 use Rattle.layout.specs.Entry.{direct, indirect, paged, recounted, relocked}
 use Rattle.tokens.specs.Permissions.{X}
 use Rattle.tokens.specs.Token.{named}

@@ -2,7 +2,7 @@
 -- with what must hold and the refusal that is given if it does not.
 -- Assumes nothing.
 use Rattle.std.specs.Prelude.{Bool, not, List, [], ◌∷◌, ◌++◌, ℕ, ◌+◌, ◌%◌, ◌^◌, eqb, leb, ltb, drop, length, take}
-use Rattle.hex.specs.Text.{farthest}
+use Rattle.hexfile.specs.Text.{farthest}
 use Rattle.layout.specs.declared.entry.Entry.{Entry}
 use Rattle.leases.specs.Lease.{all_sound, few, is_open, leases_of, week, whole}
 use Rattle.tokens.specs.Permissions.{within, X}

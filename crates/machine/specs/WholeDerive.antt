@@ -34,7 +34,7 @@ Parts =
     (σ : Machine) (k o l p c : ℕ) (b : List ℕ) → Accepted σ (derive_call k o l p c b)
     → (o' l' : ℕ) → l' ≢ 0 → l' + o' ≤ length_of σ k → (answer σ (derive_call k o' l' p c b)).reply.refusal ≢ 11 → Accepted σ (derive_call k o' l' p c b)
 
--- "The printed condition also forbids any derive of a one_byte segment": now a derive of all of a segment, of one byte too, with X alone is decided as an
+-- "The printed condition also forbids any derive of a one-byte segment": now a derive of all of a segment, of one byte too, with X alone is decided as an
 -- execute-only is.
 unfoldable pub AsExecuteOnly : Type 0
 AsExecuteOnly =

@@ -1,4 +1,6 @@
 // The machine's meaning stands in specs/, as definitions and theorems. This crate has no code to
 // call: a crate needs an item, and this is it.
-#[derive(Drop)]
+#![tactic(auto)]
+
+#[derive(Clone, Copy)]
 pub struct Meaning {}

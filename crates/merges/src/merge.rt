@@ -24,7 +24,7 @@ use table::state::StateWords;
 use tokens::token::{Named, read};
 
 // What the checks of a merge come to: where it stops, or the numbers of both entries.
-#[derive(Drop)]
+#[derive(Clone, Copy)]
 pub enum Pair {
     Stop(Refusal),
     Numbers(usize, usize),
@@ -134,8 +134,8 @@ fn grant_merge(
     task: u64,
     encoding: u64,
 ) -> Outcome
-    requires encoding_value { front_on memory (state_as s) table.old (request.merge first second task encoding) [] ≡ pass }
-    requires n_value { (n ≡ number_of first) × (k ≡ number_of second) }
+    requires passes { front_on memory (state_as s) table.old (request.merge first second task encoding) [] ≡ pass }
+    requires numbers { (n ≡ number_of first) × (k ≡ number_of second) }
     ensures { handed result table.new ≡ ruled (ended (state_as s) table.old (grant memory table.old (request.merge first second task encoding) [])) }
 {
     let d = entry_at(table, n);

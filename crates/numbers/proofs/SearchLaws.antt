@@ -104,3 +104,9 @@ module _ (t : List ℕ) (last later : ℕ) (full : 64 ≤ length t) (given : las
 
   pub seek-round : (first : ℕ) → later ≡ 0 → first ≡ first_free (last + 1 - 1) t 1 → first ≡ seek (size t - 1) t last
   seek-round first h e = e ∙ sym (both_ways ∙ rw (eq-eqb _ _ h))
+
+-- a step of the search in a row
+pub ruleset row_steps = (first_here, first_none, first_on, first_on-four)
+
+-- the ways out of the search for a new number
+pub ruleset seek_ends = (seek-later, seek-round)

@@ -1,2 +1,4 @@
 // New numbers in the table.
+#![tactic(auto)]
+
 pub mod numbers;

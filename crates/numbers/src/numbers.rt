@@ -18,6 +18,7 @@ fn is_free(table: &[u8], n: usize) -> bool
 }
 
 // Four numbers from n on are all taken. It looks at each of them, without a branch.
+#[tactic(auto, unfolding(crate::specs::Searches::four_taken))]
 fn four_taken(table: &[u8], n: usize) -> bool
     requires { 32 * n + 128 ≤ length table.now }
     ensures { result ≡ four_taken table.now n }
@@ -26,6 +27,7 @@ fn four_taken(table: &[u8], n: usize) -> bool
 }
 
 // Passes over taken numbers from the start on, four by four.
+#[tactic(auto, using(crate::proofs::SearchLaws::row_steps))]
 fn skip(table: &[u8], start: usize, end: usize) -> usize
     requires { (start ≤ end) × (32 * end ≤ length table.now) }
     ensures { Sought table.now start end result }
@@ -41,6 +43,7 @@ fn skip(table: &[u8], start: usize, end: usize) -> usize
 }
 
 // The first free number from the start on and before the end, or 0 if there is none.
+#[tactic(auto, using(crate::proofs::SearchLaws::row_steps))]
 fn free_in(table: &[u8], start: usize, end: usize) -> usize
     requires { (start ≤ end) × (32 * end ≤ length table.now) }
     ensures { result ≡ first_free (end - start) table.now start }
@@ -56,6 +59,7 @@ fn free_in(table: &[u8], start: usize, end: usize) -> usize
 }
 
 // The first free number after the last one given, or 0 if there is none.
+#[tactic(auto, using(crate::proofs::SearchLaws::seek_ends))]
 pub fn new_number(s: StateWords, table: &[u8]) -> usize
     requires { (64 ≤ length table.now) × (s.last < length table.now / 32) }
     ensures { result ≡ new_number (state_as s) table.now }

@@ -6,7 +6,7 @@ use table::state::StateWords;
 
 // The state, whose methods are the operations. Each takes it by value and hands its words back beside
 // the reply.
-#[derive(Drop)]
+#[derive(Clone, Copy)]
 pub struct State {
     pub words: StateWords,
 }

@@ -10,7 +10,7 @@ use crate::page_out::page_out;
 use rulings::reply::Outcome;
 use table::state::StateWords;
 
-#[derive(Drop)]
+#[derive(Clone, Copy)]
 pub enum Kind {
     Out,
     In,

@@ -134,8 +134,8 @@ fn grant_in(
     encoding: u64,
 ) -> Outcome
     requires { front_on (length memory.old) (state_as s) table.old (request.page_in token donor task encoding) buffer.now ≡ pass }
-    ensures table_after { handed result table.new ≡ ruled (ended (state_as s) table.old (grant (length memory.old) table.old (request.page_in token donor task encoding) buffer.now)) }
-    ensures memory_after { memory.new ≡ memory_after (ended (state_as s) table.old (grant (length memory.old) table.old (request.page_in token donor task encoding) buffer.now)).effect memory.old }
+    ensures outcome { handed result table.new ≡ ruled (ended (state_as s) table.old (grant (length memory.old) table.old (request.page_in token donor task encoding) buffer.now)) }
+    ensures memory_left { memory.new ≡ memory_after (ended (state_as s) table.old (grant (length memory.old) table.old (request.page_in token donor task encoding) buffer.now)).effect memory.old }
 {
     let a = read(token);
     let b = read(donor);

@@ -73,8 +73,8 @@ fn check_out(
 // So many bytes of memory go to the buffer, and become zeros.
 fn carry_out(memory: &mut [u8], buffer: &mut [u8], start: usize, count: usize)
     requires { (start + count ≤ length memory.old) × (length buffer.old ≡ count) }
-    ensures memory_after { memory.new ≡ sets memory.old start (replicate count 0) }
-    ensures buffer_after { buffer.new ≡ take count (drop start memory.old) }
+    ensures memory_left { memory.new ≡ sets memory.old start (replicate count 0) }
+    ensures buffer_left { buffer.new ≡ take count (drop start memory.old) }
 {
     let end = start + count;
     copy_long(buffer, &memory[start..end]);
@@ -95,9 +95,9 @@ fn grant_out(
     encoding: u64,
 ) -> Outcome
     requires { Allots (state_as s) table.old (Number new) (front_on (length memory.old) (state_as s) table.old (request.page_out token task page encoding) buffer.old) }
-    ensures table_after { handed result table.new ≡ ruled (ended (state_as s) table.old (grant (length memory.old) table.old (request.page_out token task page encoding) buffer.old)) }
-    ensures memory_after { memory.new ≡ memory_after (ended (state_as s) table.old (grant (length memory.old) table.old (request.page_out token task page encoding) buffer.old)).effect memory.old }
-    ensures buffer_after { buffer.new ≡ buffer_after (ended (state_as s) table.old (grant (length memory.old) table.old (request.page_out token task page encoding) buffer.old)).effect memory.old buffer.old }
+    ensures outcome { handed result table.new ≡ ruled (ended (state_as s) table.old (grant (length memory.old) table.old (request.page_out token task page encoding) buffer.old)) }
+    ensures memory_left { memory.new ≡ memory_after (ended (state_as s) table.old (grant (length memory.old) table.old (request.page_out token task page encoding) buffer.old)).effect memory.old }
+    ensures buffer_left { buffer.new ≡ buffer_after (ended (state_as s) table.old (grant (length memory.old) table.old (request.page_out token task page encoding) buffer.old)).effect memory.old buffer.old }
 {
     let named = read(token);
     let n = named.number as usize;

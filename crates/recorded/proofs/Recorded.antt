@@ -4,9 +4,9 @@ use mathlib.Core.Path.{refl}
 use mathlib.Core.List.{◌++◌}
 use Rattle.bits.specs.Bytes.{bytes, low_bytes, low_number, number}
 use Rattle.bits.specs.SipHash.{absorb, add64, compress, finish, padded, rotl, siphash, sip_round, word}
-use Rattle.hex.specs.Record.{byte, digit, malformed, verdict, wrong_sum}
-use Rattle.hex.specs.Text.{lines, read, said}
-use Rattle.hex.specs.Written.{capital, data_records, line_of, written}
+use Rattle.hexfile.specs.Record.{byte, digit, malformed, verdict, wrong_sum}
+use Rattle.hexfile.specs.Text.{lines, read, said}
+use Rattle.hexfile.specs.Written.{capital, data_records, line_of, written}
 use Rattle.layout.specs.Entry.{direct_number, direct_of, entry_number, entry_of, free_number, indirect_number, indirect_of}
 use Rattle.layout.specs.Form.{ill_formed}
 use Rattle.layout.specs.Tag.{tag_of}

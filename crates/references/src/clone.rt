@@ -48,7 +48,7 @@ fn grant_clone(
     named: Named,
 ) -> Outcome
     requires named_value { named ≡ tokens.named token }
-    requires token_value { verdict_on memory (state_as s) table.old (request.clone token) [] ≡ pass }
+    requires passes { verdict_on memory (state_as s) table.old (request.clone token) [] ≡ pass }
     ensures { handed result table.new ≡ granting memory (state_as s) table.old (request.clone token) [] }
 {
     let n = named.number as usize;

@@ -89,7 +89,7 @@ fn grant_derive(
     encoding: u64,
 ) -> Outcome
     requires named_value { named ≡ tokens.named token }
-    requires allotted { allotted memory (state_as s) table.old (request.derive token offset length permissions encoding) new }
+    requires checks_passed { allotted memory (state_as s) table.old (request.derive token offset length permissions encoding) new }
     ensures { handed result table.new ≡ ruled (ended (state_as s) table.old (grant memory table.old (request.derive token offset length permissions encoding) [])) }
 {
     grant_child(

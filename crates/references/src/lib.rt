@@ -1,4 +1,6 @@
 // Operations on references to a segment: derive, execute-only, clone.
+#![tactic(auto)]
+
 mod child;
 pub mod clone;
 pub mod derive;

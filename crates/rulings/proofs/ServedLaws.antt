@@ -8,15 +8,15 @@ use lib.ListN.{length}
 use Rattle.checks.specs.Refusals.{refusal_as, stop_as}
 use Rattle.checks.specs.declared.refusal.Refusal as code
 use Rattle.machine.specs.LastOfAll.{makes}
-use Rattle.machine.specs.Operations.{carried, Decision, Effect, Fill, Grant, grant, nothing, unfilled}
+use Rattle.machine.specs.Operations.{carried, Decision, Effect, Grant, grant, nothing, unfilled}
 use Rattle.machine.specs.Parts.{State}
 use Rattle.machine.specs.Requests.{Request}
-use Rattle.machine.specs.Steps.{answer, blind, buffer_after, decide, decision, finished, memory_after, pass, refused, settle, step, stop, telling, told_length, Verdict, verdict}
-use Rattle.machine.specs.Stops.{at_request, checks, lastly, need_all, nonces_left, Places, places, sizes}
+use Rattle.machine.specs.Steps.{answer, blind, buffer_after, decide, decision, finished, memory_after, pass, refused, settle, step, telling, told_length, Verdict, verdict}
+use Rattle.machine.specs.Stops.{at_request, lastly, need_all, nonces_left, Places, places, sizes}
 use Rattle.machine.proofs.LastOfAll.{last_of_all}
 use Rattle.table.specs.States.{state_as}
 use Rattle.table.specs.declared.state.StateWords.{StateWords}
-use Rattle.rulings.specs.Rulings.{effect_on, granting, handed, refusing, ruled, ruling_on, verdict_on}
+use Rattle.rulings.specs.Rulings.{effect_on, handed, refusing, ruled, ruling_on, verdict_on}
 use Rattle.rulings.specs.Served.{before, call_as, Served, ServedAlone}
 use Rattle.rulings.specs.declared.reply.Outcome.{Outcome}
 use Rattle.rulings.proofs.RulingLaws.{by_effect}

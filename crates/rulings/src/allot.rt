@@ -7,7 +7,7 @@ use numbers::numbers::new_number;
 use table::state::StateWords;
 
 // What the checks of a request come to that issues under a new number.
-#[derive(Drop)]
+#[derive(Clone, Copy)]
 pub enum Allotted {
     Stop(Refusal),
     Number(usize),

@@ -6,7 +6,7 @@ use checks::refusal::{Refusal, told};
 use table::state::StateWords;
 
 // The tokens that an answer carries. The word 0 is a real token, so that their number is told.
-#[derive(Drop)]
+#[derive(Clone, Copy)]
 pub enum Tokens {
     None,
     One(u64),
@@ -15,7 +15,7 @@ pub enum Tokens {
 
 // An answer but for its buffer: a granted request has tokens and drop's number, or the length of what
 // it put at the buffer's front (a load puts nothing there); a refused one has its refusal.
-#[derive(Drop)]
+#[derive(Clone, Copy)]
 pub enum Reply {
     Granted { tokens: Tokens, dropped: u64 },
     Filled { length: u64 },
@@ -23,14 +23,14 @@ pub enum Reply {
 }
 
 // The state beside the reply.
-#[derive(Drop)]
+#[derive(Clone, Copy)]
 pub struct Outcome {
     pub state: StateWords,
     pub reply: Reply,
 }
 
 // What the checks of a request come to.
-#[derive(Drop)]
+#[derive(Clone, Copy)]
 pub enum Checked {
     Stop(Refusal),
     Pass,

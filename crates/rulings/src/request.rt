@@ -1,7 +1,7 @@
 // Requests, as the code has them.
 
 // How bytes move: from the segment to the buffer, as data or as code, or the other way.
-#[derive(Drop)]
+#[derive(Clone, Copy)]
 pub enum Way {
     Read,
     Write,
@@ -9,7 +9,7 @@ pub enum Way {
 }
 
 // A text that is read into the segment, and the segment written as such text: they count as accesses.
-#[derive(Drop)]
+#[derive(Clone, Copy)]
 pub enum Image {
     Load,
     Dump,
@@ -18,7 +18,7 @@ pub enum Image {
 // A request with all that it carries. An access has its bytes, an image its text, and what pages out or
 // in a segment's bytes, in the buffer that is lent with it; the leases of accesses and images are lent
 // too.
-#[derive(Drop)]
+#[derive(Clone, Copy)]
 pub enum Request {
     Reset {
         key0: u64,

@@ -1,4 +1,6 @@
 // Operations on whole segments: reset, create, revoke.
+#![tactic(auto)]
+
 pub mod create;
 pub mod reset;
 pub mod revoke;

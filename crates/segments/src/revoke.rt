@@ -59,8 +59,8 @@ fn grant_revoke(
     encoding: u64,
 ) -> Outcome
     requires { front_on (length memory.old) (state_as s) table.old (request.revoke token encoding) [] ≡ pass }
-    ensures table_after { handed result table.new ≡ ruled (ended (state_as s) table.old (operation.grant (length memory.old) table.old (request.revoke token encoding) [])) }
-    ensures memory_after { memory.new ≡ memory_after (ended (state_as s) table.old (operation.grant (length memory.old) table.old (request.revoke token encoding) [])).effect memory.old }
+    ensures outcome { handed result table.new ≡ ruled (ended (state_as s) table.old (operation.grant (length memory.old) table.old (request.revoke token encoding) [])) }
+    ensures memory_left { memory.new ≡ memory_after (ended (state_as s) table.old (operation.grant (length memory.old) table.old (request.revoke token encoding) [])).effect memory.old }
 {
     let named = read(token);
     let n = named.number as usize;

@@ -1,2 +1,3 @@
 // Any request, served.
+#![tactic(auto)]
 pub mod serve;

@@ -1,10 +1,12 @@
 // Paper 01's session: 65,536 bytes, 4 entries, key 0, first nonce 1, task 0 unless named. Prints a
 // line for each case: case, space, refusal (0 granted). Case 6, a derive of the whole, is granted, as
 // paper 1 of 02 has it.
-use libc::STDOUT_FILENO;
+#![tactic(auto)]
+
 use operations::state::State;
 use rulings::reply::{Outcome, Reply, Tokens, refusal_of};
 use rulings::request::Way;
+use std::io;
 use table::state::StateWords;
 
 // The state that a request handed back.
@@ -14,13 +16,11 @@ fn after(r: Outcome) -> State {
 }
 
 // Prints a case's line, and hands the state on.
-fn shown(case: u64, r: Outcome) -> State {
+fn shown(rt: &impl Print, case: u64, r: Outcome) -> io::Result<State> {
     let reply = r.reply;
-    io::print_decimal(STDOUT_FILENO, case);
-    io::write_all(STDOUT_FILENO, b" ");
-    io::print_decimal(STDOUT_FILENO, refusal_of(reply));
-    io::write_all(STDOUT_FILENO, b"\n");
-    after(r)
+    let refusal = refusal_of(reply);
+    println!(rt; "{case} {refusal}")?;
+    Ok(after(r))
 }
 
 // A read of twelve bytes, and of one.
@@ -67,31 +67,38 @@ fn token_in(r: Outcome) -> u64 {
 }
 
 // Cases 1 to 4: reads through token 0, whose offset is the address.
-fn reads(s: State, table: &[u8], memory: &mut [u8]) -> State {
-    let s = shown(1, read_twelve(s, table, memory, 4096));
-    let s = shown(2, read_one(s, table, memory, 65535, 0));
-    let s = shown(3, read_one(s, table, memory, 65536, 0));
-    shown(4, read_twelve(s, table, memory, 65525))
+fn reads(rt: &impl Print, s: State, table: &[u8], memory: &mut [u8]) -> io::Result<State> {
+    let s = shown(rt, 1, read_twelve(s, table, memory, 4096))?;
+    let s = shown(rt, 2, read_one(s, table, memory, 65535, 0))?;
+    let s = shown(rt, 3, read_one(s, table, memory, 65536, 0))?;
+    shown(rt, 4, read_twelve(s, table, memory, 65525))
 }
 
 // Cases 7 to 11.
-fn locked(s: State, table: &mut [u8], memory: &mut [u8]) -> State {
-    let s = shown(7, s.create(table, memory, 0, 0, 4096, 0, 7, 0));
-    let s = shown(8, s.lock(table, memory, 0, 0));
-    let s = shown(9, s.lock(table, memory, 0, 7));
-    let s = shown(10, read_one(s, table, memory, 0, 8));
-    shown(11, s.drop(table, memory, 0))
+fn locked(rt: &impl Print, s: State, table: &mut [u8], memory: &mut [u8]) -> io::Result<State> {
+    let s = shown(rt, 7, s.create(table, memory, 0, 0, 4096, 0, 7, 0))?;
+    let s = shown(rt, 8, s.lock(table, memory, 0, 0))?;
+    let s = shown(rt, 9, s.lock(table, memory, 0, 7))?;
+    let s = shown(rt, 10, read_one(s, table, memory, 0, 8))?;
+    shown(rt, 11, s.drop(table, memory, 0))
 }
 
 // Cases 12 to 15, with the token that case 5 gave.
-fn revoked(s: State, table: &mut [u8], memory: &mut [u8], token: u64) {
-    let s = shown(12, s.revoke(table, memory, 0, 0));
-    let s = shown(13, read_one(s, table, memory, 0, 0));
-    let s = shown(14, read_one(s, table, memory, token, 0));
-    shown(15, s.drop(table, memory, token));
+fn revoked(
+    rt: &impl Print,
+    s: State,
+    table: &mut [u8],
+    memory: &mut [u8],
+    token: u64,
+) -> io::Result<()> {
+    let s = shown(rt, 12, s.revoke(table, memory, 0, 0))?;
+    let s = shown(rt, 13, read_one(s, table, memory, 0, 0))?;
+    let s = shown(rt, 14, read_one(s, table, memory, token, 0))?;
+    shown(rt, 15, s.drop(table, memory, token))?;
+    Ok(())
 }
 
-fn session(table: &mut [u8], memory: &mut [u8]) {
+fn session(rt: &impl Print, table: &mut [u8], memory: &mut [u8]) -> io::Result<()> {
     let blank = State {
         words: StateWords {
             key0: 0,
@@ -102,17 +109,17 @@ fn session(table: &mut [u8], memory: &mut [u8]) {
         },
     };
     let start = blank.reset(table, memory, 0, 0, 1);
-    let s = reads(after(start), table, memory);
+    let s = reads(rt, after(start), table, memory)?;
     let derived = s.derive(table, memory, 0, 0, 65535, 4, 0);
     let token = token_in(derived);
-    let s = shown(5, derived);
-    let s = shown(6, s.derive(table, memory, 0, 0, 65536, 4, 0));
-    let s = locked(s, table, memory);
-    revoked(s, table, memory, token);
+    let s = shown(rt, 5, derived)?;
+    let s = shown(rt, 6, s.derive(table, memory, 0, 0, 65536, 4, 0))?;
+    let s = locked(rt, s, table, memory)?;
+    revoked(rt, s, table, memory, token)
 }
 
-fn main() {
+fn main(rt: HostRuntime) -> io::Result<()> {
     let mut table = [0u8; 128];
     let mut memory = [0u8; 65536];
-    session(&mut table, &mut memory);
+    session(&rt, &mut table, &mut memory)
 }

@@ -7,7 +7,7 @@ use Rattle.bits.specs.Fields.{pack, unpack, Fit}
 use Rattle.bits.proofs.ByteLaws.{by_elements}
 use Rattle.bits.proofs.TestLaws.{both}
 use Rattle.layout.specs.Entry.{end_from, end_widths, entry_of, word_list, words_number, word_widths}
-use Rattle.layout.specs.Form.{faults_of, ill_formed, or_some}
+use Rattle.layout.specs.Form.{ill_formed, or_some}
 use Rattle.layout.specs.declared.entry.Entry.{Entry}
 use Rattle.layout.proofs.EntryLaws.{indirect_at, indirect_read, shared-read}
 use Rattle.layout.proofs.FormLaws.{ill_as}

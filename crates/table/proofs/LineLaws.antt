@@ -71,3 +71,6 @@ module _ (m : ℕ) (t : List ℕ) (n : ℕ) (e : Entry) (b : Bool) (is : e ≡ a
 
   pub own_owner : b ≡ false → e.kind ≡ 1 → owner n ≡ line_of m t n
   own_owner = walk-owner m t n n e b refl is form
+
+-- the ways on and out of a walk
+pub ruleset walks = (walk-ill, walk-owner, walk-dead, walk_in, walk_up, walk_here)

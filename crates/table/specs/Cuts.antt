@@ -28,7 +28,7 @@ cut_words s = record {
   d = s.d;
 }
 
--- indirect, well_formed in a memory of m bytes, and with a parent in a table of so many bytes
+-- indirect, well-formed in a memory of m bytes, and with a parent in a table of so many bytes
 abbrev pub passes : ℕ → ℕ → Cut → Bool
 passes m room s =
     (s.a / 2 ^ 61 == 2)

@@ -15,7 +15,7 @@ use std::num::wrapping_sub_u64;
 // below that the length's top bits (up); 32 times the rest of the length, and below that the count's
 // top bits (len); more of the count (x); its last bits, and what is to be zeros (y, z); the last word
 // (d).
-#[derive(Drop)]
+#[derive(Clone, Copy)]
 pub struct Cut {
     pub a: u64,
     pub hi: u64,
@@ -80,7 +80,7 @@ pub(crate) fn cut_at(table: &[u8], byte: usize) -> Cut
     read_cut(&table[byte..end])
 }
 
-// The entry is indirect and well_formed, and its parent's number is in a table of so many bytes.
+// The entry is indirect and well-formed, and its parent's number is in a table of so many bytes.
 pub(crate) fn passes(memory: u64, room: u64, c: Cut) -> bool
     ensures { result ≡ passes memory room c }
 {

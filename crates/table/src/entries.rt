@@ -34,6 +34,7 @@ pub fn words_at(table: &[u8], n: usize) -> Words
 }
 
 // The words are stored under number n: it holds the entry whose words they are.
+#[tactic(auto, unfolding(machine::specs::Parts::put, machine::specs::Parts::size))]
 pub fn put_words(table: &mut [u8], n: usize, w: Words)
     requires { 32 * n + 32 ≤ length table.old }
     ensures { Stored table.old n w table.new }

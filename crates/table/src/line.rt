@@ -12,7 +12,7 @@ use tokens::token::Encoding1;
 
 // What a walk up a line ends at: the owner, the entry that holds a missing link, or an ill-formed
 // entry. It does not start at an entry that is paged out, and meets none.
-#[derive(Drop)]
+#[derive(Clone, Copy)]
 pub enum Line {
     Owner(usize),
     Dead(usize),
@@ -37,6 +37,7 @@ fn links(p: Entry, e: Entry) -> bool
 }
 
 // The link of the entry e to its parent holds.
+#[tactic(auto, using(crate::proofs::LineLaws::unlinked), unfolding(machine::specs::Parts::size))]
 pub fn linked(table: &[u8], e: Entry) -> bool
     ensures { result ≡ linked table.now e }
 {
@@ -57,6 +58,7 @@ pub fn is_paged(table: &[u8], n: usize) -> bool
 }
 
 // The end of the line of entry n, in a memory of so many bytes, whatever the entries are.
+#[tactic(auto, using(crate::proofs::LineLaws::walks))]
 fn trace(table: &[u8], memory: u64, n: usize) -> Line
     requires n_in_bounds { 32 * n + 32 ≤ length table.now }
     requires n_value { is_paged (at table.now n) ≡ false }
@@ -81,6 +83,7 @@ fn trace(table: &[u8], memory: u64, n: usize) -> Line
 }
 
 // The same, quick where entry n is direct.
+#[tactic(auto, using(crate::proofs::LineLaws::own_ill, crate::proofs::LineLaws::own_owner))]
 fn ended(table: &[u8], memory: u64, n: usize) -> Line
     requires n_in_bounds { 32 * n + 32 ≤ length table.now }
     requires n_value { is_paged (at table.now n) ≡ false }
@@ -99,14 +102,15 @@ fn ended(table: &[u8], memory: u64, n: usize) -> Line
     }
 }
 
-// How far the line of entry n goes up by entries that are well_formed and linked, each read once:
+// How far the line of entry n goes up by entries that are well-formed and linked, each read once:
 // the number of the first that is not passed, whose line ends where that of entry n does.
+#[tactic(auto, using(crate::proofs::CutLaws::climb_less, crate::proofs::CutLaws::climb_up))]
 fn climb(table: &[u8], memory: u64, n: usize) -> usize
     requires n_in_bounds { 32 * n + 32 ≤ length table.now }
     requires n_value { is_paged (at table.now n) ≡ false }
     ensures result_value { line_of memory table.now result ≡ line_of memory table.now n }
     ensures result_in_bounds { 32 * result + 32 ≤ length table.now }
-    ensures result_value_2 { is_paged (at table.now result) ≡ false }
+    ensures result_unpaged { is_paged (at table.now result) ≡ false }
 {
     let room = table.len() / 32 * 32;
     let mut byte = 32 * n;

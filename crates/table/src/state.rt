@@ -2,7 +2,7 @@
 
 // The key, the last number given, the next nonce and the total of free numbers. They travel whole; what a request is judged by
 // and what it writes are functions over them and the table.
-#[derive(Drop)]
+#[derive(Clone, Copy)]
 pub struct StateWords {
     pub key0: u64,
     pub key1: u64,

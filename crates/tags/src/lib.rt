@@ -1,2 +1,4 @@
 // Tags of entries.
+#![tactic(auto)]
+
 pub mod tag;

@@ -16,6 +16,7 @@ fn with_tag(word: u64, tag: u16, nonce: u32) -> u64
 }
 
 // The words of the same entry with another tag and nonce.
+#[tactic(auto, using(crate::proofs::RetagLaws::stamp_words))]
 pub fn stamped(w: Words, tag: u16, nonce: u32) -> Words
     requires { Laid (entry_of (words_number w)).kind }
     ensures { words_number result ≡ entry_number (retag (dated (entry_of (words_number w)) nonce) tag) }
@@ -42,7 +43,7 @@ pub fn tag(k0: u64, k1: u64, w: Words, number: u64) -> u16
     (finish(compress(five, 40 << 56)) % 65536) as u16
 }
 
-#[derive(Drop)]
+#[derive(Clone, Copy)]
 pub struct Tags {
     pub first: u16,
     pub second: u16,

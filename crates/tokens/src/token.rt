@@ -5,7 +5,7 @@ ghost use Rattle.bits.specs.Fields.{Fit};
 ghost use Rattle.tokens.specs.Token.{encoding_of, fits_as, named, named_as, named_in, NamedFits, packing, token, token_fields, token_in, token_widths};
 
 // What a token names: an entry, by its tag and number, and an offset.
-#[derive(Drop)]
+#[derive(Clone, Copy)]
 pub struct Named {
     pub tag: u64,
     pub number: u64,
@@ -13,7 +13,7 @@ pub struct Named {
 }
 
 // What packing gives: the token, or that some part is too wide for its field.
-#[derive(Drop)]
+#[derive(Clone, Copy)]
 pub enum Packing {
     Token(u64),
     TooWide,
@@ -50,7 +50,7 @@ fn unpacked_in(number: u64, offset: u64, t: u64) -> Named
 }
 
 // Encoding 0: a 14-bit number and a 32-bit offset.
-#[derive(Drop)]
+#[derive(Clone, Copy)]
 pub struct Encoding0 {}
 
 impl Encoding0 {
@@ -81,7 +81,7 @@ impl Encoding0 {
 }
 
 // Encoding 1: a 46-bit number and a 0-bit offset.
-#[derive(Drop)]
+#[derive(Clone, Copy)]
 pub struct Encoding1 {}
 
 impl Encoding1 {
@@ -112,7 +112,7 @@ impl Encoding1 {
 }
 
 // Encoding 2: a 30-bit number and a 16-bit offset.
-#[derive(Drop)]
+#[derive(Clone, Copy)]
 pub struct Encoding2 {}
 
 impl Encoding2 {
@@ -143,7 +143,7 @@ impl Encoding2 {
 }
 
 // Encoding 3: a 22-bit number and a 24-bit offset.
-#[derive(Drop)]
+#[derive(Clone, Copy)]
 pub struct Encoding3 {}
 
 impl Encoding3 {
@@ -220,6 +220,7 @@ fn fits(e: u64, n: Named) -> bool
 }
 
 // The token in the wanted encoding (0 to 3) that names n.
+#[tactic(auto, using(crate::proofs::TokenLaws::fits_holds), unfolding(crate::specs::Token::packing))]
 pub fn pack(e: u64, n: Named) -> Packing
     ensures { result ≡ packing e n }
 {

@@ -7,7 +7,7 @@ use lib.ListN.{replicate}
 use Rattle.bits.specs.Bytes.{AllBytes, bytes, low_bytes, low_number, number}
 use Rattle.bits.specs.SipHash.{absorb, add64, compress, finish, padded, rotl, siphash, sip_round, word}
 use Rattle.bits.proofs.ByteLists.{bytes-zeros}
-use Rattle.hex.specs.Written.{capital, data_records, line_of, written}
+use Rattle.hexfile.specs.Written.{capital, data_records, line_of, written}
 use Rattle.layout.specs.Entry.{direct_number, direct_of, entry_number, entry_of, free_number, indirect_number, indirect_of}
 use Rattle.layout.specs.Form.{ill_formed}
 use Rattle.layout.specs.Tag.{tag_of}

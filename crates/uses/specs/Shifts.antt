@@ -1,7 +1,7 @@
 -- Shift windows, on eight bytes: the root has a lease for the minutes 1 to 8, and another token a window over the week's end.
 -- Assumes nothing.
 use Rattle.std.specs.Prelude.{List, [], ◌∷◌, ℕ}
-use Rattle.machine.specs.Requests.{access, Call, reading, Request, Shift}
+use Rattle.machine.specs.Requests.{access, reading, Request, Shift}
 
 -- number 0, tag 0, minutes 1 to 8; and number 1, tag 63154, from 10,000 over the week's end to 4
 abbrev pub leases : List ℕ

@@ -1,0 +1,11 @@
+-- `bits::slice::copy_bytes` meets its contract. The loop's invariant: the first i bytes are copied.
+use mathlib.Core.Path.{◌≡◌}
+use Prim.Native.Nat.{◌-◌, ◌≤◌}
+use lib.ListN.{length, take}
+use Rattle.bits.proofs.slice.copy_bytes.Given as goal
+
+abbrev pub invariant-loop-i : goal.invariant-loop-i
+invariant-loop-i l = (l.i ≤ length l.from) × ((take l.i l.to ≡ take l.i l.from) × (length l.to ≡ length l.from))
+
+abbrev pub decreases-loop-i : goal.decreases-loop-i
+decreases-loop-i l = length l.from - l.i

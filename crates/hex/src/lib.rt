@@ -1,4 +1,0 @@
-// The meaning of Intel HEX text stands in specs/, as definitions and theorems. This crate has no code
-// to call: a crate needs an item, and this is it.
-#[derive(Drop)]
-pub struct Meaning {}
