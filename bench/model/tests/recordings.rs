@@ -223,7 +223,8 @@ fn replay(session: &Term, definitions: &Definitions) -> usize {
 #[test]
 fn sessions_are_served_as_recorded() {
     let definitions = recordings();
-    let lists = ["sessions", "sessions_above", "sessions_kept"].map(|name| definitions[name].list());
+    let lists =
+        ["sessions", "sessions_above", "sessions_kept"].map(|name| definitions[name].list());
     let sessions: Vec<&Term> = lists.into_iter().flatten().collect();
     let rows: usize =
         sessions.iter().map(|name| replay(&definitions[name.word()], &definitions)).sum();

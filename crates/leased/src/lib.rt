@@ -2,6 +2,7 @@
 // own, so that each of the two is compiled as one piece, and whoever calls `northbridge_serve` alone
 // links nothing of this.
 #![tactic(auto)]
+
 ghost use Rattle.std.specs.Prelude.{◌≡◌};
 ghost use Rattle.interface.specs.Exported as interface;
 ghost use Rattle.interface.specs.Exported.{exported};

@@ -1,5 +1,6 @@
 // The northbridge for C and Rust: one function over six lent slices.
 #![tactic(auto)]
+
 ghost use Rattle.std.specs.Prelude.{◌≡◌};
 ghost use Rattle.interface.specs.Exported.{exported, no_leases};
 ghost use Rattle.interface.specs.Meanings.{left};

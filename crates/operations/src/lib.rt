@@ -1,5 +1,6 @@
 // The operations of the northbridge: methods of its state over the table and the memory.
 #![tactic(auto)]
+
 pub mod access;
 pub mod lock;
 pub mod page;

@@ -1,3 +1,4 @@
 // Any request, served.
 #![tactic(auto)]
+
 pub mod serve;

@@ -1,5 +1,5 @@
 -- `paging::page_out::grant_out` meets its contract: the segment lies in memory, and numbers and nonces fit.
-use Rattle.std.proofs.Common.{refl, List, ℕ, ◌≡◌, length}
+use Rattle.std.proofs.Common.{refl, List, ℕ, ◌≡◌}
 use Rattle.entering.specs.Nonces.{FindsTwo, Issuable}
 use Rattle.entering.specs.declared.nonces.FoundTwo.{FoundTwo}
 use Rattle.layout.specs.Entry.{entry_of, laid_direct, laid_paged, words_number}

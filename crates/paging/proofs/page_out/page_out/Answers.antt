@@ -1,5 +1,5 @@
 -- `paging::page_out::page_out` meets its contract: it is decided by its verdict, and so is what it does to memory and buffer.
-use Rattle.std.proofs.Common.{◌≡◌, refl}
+use Rattle.std.proofs.Common.{refl}
 use Rattle.rulings.proofs.RulingLaws.{front-decided, front-effect, front-stop}
 use Rattle.rulings.proofs.ServedLaws.{served, served-stop}
 use Rattle.paging.proofs.page_out.page_out.Goals as goal
