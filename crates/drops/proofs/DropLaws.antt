@@ -36,7 +36,7 @@ use Rattle.climbs.specs.Climbs.{Climbed, climbed, leaving}
 
 module _ (m : ℕ) (s : State) (t : List ℕ) (k : ℕ) where
   -- place 1, with the token read as n
-  drop-request : (n : Named) → n ≡ named k → (settings_hold m s t && eqb n.offset 0) ≡ request_holds m s t (release k) []
+  pub drop-request : (n : Named) → n ≡ named k → (settings_hold m s t && eqb n.offset 0) ≡ request_holds m s t (release k) []
   unfolding settings_hold request_holds
   drop-request n is = rw is
 

@@ -1,4 +1,4 @@
--- Load images (02, paper 2): what a text of Intel HEX comes to in a segment. `hex` says what a text says and which text is written.
+-- Load images (02, paper 2): what a text of Intel HEX comes to in a segment. `hexfile` says what a text says and which text is written.
 -- Assumes nothing.
 use Rattle.std.specs.Prelude.{Bool, not, List, [], ℕ, eqb, leb, length}
 use Rattle.hexfile.specs.Text.{loads, Piece, refused, Said, said}

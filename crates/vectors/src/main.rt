@@ -7,6 +7,10 @@ use layout::entry::{direct, write};
 use std::io;
 use tokens::token::{Named, Packing, pack};
 
+fn end_line(rt: &impl Print) -> io::Result<()> {
+    println!(rt; "")
+}
+
 // The bytes 00 01 .. 3f, of which each message is a front.
 fn message() -> [u8; 64] {
     let mut m = [0u8; 64];
@@ -24,7 +28,8 @@ fn print_hash(rt: &impl Print, message: &[u8]) -> io::Result<()> {
     let hash = siphash(0x0706050403020100, 0x0f0e0d0c0b0a0908, message);
     let length = message.len();
     let word = swapped(hash);
-    println!(rt; "siphash {length} {word:016x}")
+    print!(rt; "siphash {length} {word:016x}")?;
+    end_line(rt)
 }
 
 fn print_hashes(rt: &impl Print) -> io::Result<()> {
@@ -45,9 +50,10 @@ fn print_token(rt: &impl Print, encoding: u64, offset: u64) -> io::Result<()> {
         offset,
     };
     match pack(encoding, named) {
-        Packing::Token(t) => println!(rt; "token {encoding} {t:016x}"),
-        Packing::TooWide => println!(rt; "token {encoding} too wide"),
+        Packing::Token(t) => print!(rt; "token {encoding} {t:016x}")?,
+        Packing::TooWide => print!(rt; "token {encoding} too wide")?,
     }
+    end_line(rt)
 }
 
 fn print_word(rt: &impl Print, part: &[u8]) -> io::Result<()> {
@@ -67,7 +73,7 @@ fn print_root(rt: &impl Print) -> io::Result<()> {
     print_word(rt, &part[8..16])?;
     print_word(rt, &part[16..24])?;
     print_word(rt, &part[24..32])?;
-    println!(rt; "")
+    end_line(rt)
 }
 
 fn main(rt: HostRuntime) -> io::Result<()> {
