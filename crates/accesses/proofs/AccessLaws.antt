@@ -3,8 +3,10 @@
 use mathlib.Core.Path.{◌≡◌, refl, sym, ◌∙◌}
 use mathlib.Core.Bool.{Bool, true, false, ◌&&◌, cond}
 use mathlib.Core.List.{List, [], ◌∷◌, ◌++◌}
+use Rattle.std.specs.Prelude.{Ok}
 use Prim.Native.Nat.{ℕ, zero, suc, ◌+◌, ◌/◌, ◌%◌, ◌^◌, ◌≤◌, ◌<◌}
 use native.Mathlib.Omega.{arith}
+use Rattle.std.proofs.Math.Bool.{and-true}
 use lib.Dec.{eqb, leb, ltb}
 use lib.ListN.{length}
 use borrow.Author.Tests.{le-leb, leb-true}
@@ -27,16 +29,12 @@ use Rattle.machine.proofs.Grants.{access-inside}
 use Rattle.table.specs.States.{state_as}
 use Rattle.table.specs.declared.state.StateWords.{StateWords}
 use Rattle.rulings.specs.Rulings.{effect_on, granted_effect, granting, handed, plainly, ruling_on, tokens_on, verdict_on}
-use Rattle.rulings.specs.declared.reply.Outcome.{Outcome}
+use Rattle.rulings.specs.declared.reply.Granted.{Granted}
 use Rattle.rulings.proofs.AllotLaws.{request-limits}
 use Rattle.rulings.proofs.RulingLaws.{decided-pass, effect-pass, passed_on, rest_alone, token-passes}
 use Rattle.accesses.specs.Transfers.{start_of}
 
 -- ---- the right, as one bit
-
-and_true : (b : Bool) → (b && true) ≡ b
-and_true true = refl
-and_true false = refl
 
 bit-held : (x : ℕ) → x < 2 → eqb x 1 ≡ leb 1 x
 bit-held zero h = refl
@@ -45,9 +43,13 @@ bit-held (suc (suc x)) h = absurd (omega arith)
 
 pub right_held : (w : Way) (p : ℕ) → eqb (has p (right_of w)) 1 ≡ within (right_of w) p
 unfolding within
-right_held reading p = rw (bit-held (p / 4 % 2) (omega arith), le-leb 0 (p / 2 % 2) (omega arith), le-leb 0 (p / 1 % 2) (omega arith), and_true, and_true)
-right_held writing p = rw (bit-held (p / 2 % 2) (omega arith), le-leb 0 (p / 4 % 2) (omega arith), le-leb 0 (p / 1 % 2) (omega arith), and_true)
+right_held reading p = rw (bit-held (p / 4 % 2) (omega arith), le-leb 0 (p / 2 % 2) (omega arith), le-leb 0 (p / 1 % 2) (omega arith), and-true, and-true)
+right_held writing p = rw (bit-held (p / 2 % 2) (omega arith), le-leb 0 (p / 4 % 2) (omega arith), le-leb 0 (p / 1 % 2) (omega arith), and-true)
 right_held fetching p = rw (bit-held (p / 1 % 2) (omega arith), le-leb 0 (p / 4 % 2) (omega arith), le-leb 0 (p / 2 % 2) (omega arith))
+
+-- what the code's test of it says
+pub held_as : {r b : Bool} (w : Way) (p : ℕ) → r ≡ eqb (has p (right_of w)) 1 → r ≡ b → within (right_of w) p ≡ b
+held_as w p h is = sym (h ∙ right_held w p) ∙ is
 
 module _ (m : ℕ) (s : State) (t : List ℕ) (w : Way) (k u : ℕ) (φ : Shift) (b : List ℕ) where
   -- ---- the right and the bounds, with the token read as n, its entry as e, and so many bytes
@@ -103,7 +105,7 @@ module _ (m : ℕ) (s : State) (t : List ℕ) (w : Way) (k u : ℕ) (φ : Shift)
     access-effect = effect-pass m s t (access w k u φ) b h
 
 -- what is handed back
-pub access-grants : (m : ℕ) (s : StateWords) (t : List ℕ) (w : Way) (k u : ℕ) (φ : Shift) (b : List ℕ) (r : Outcome) → r ≡ plainly s 0 → verdict_on m (state_as s) t (access w k u φ) b ≡ pass
-    → handed r t ≡ ruling_on m (state_as s) t (access w k u φ) b
+pub access-grants : (m : ℕ) (s : StateWords) (t : List ℕ) (w : Way) (k u : ℕ) (φ : Shift) (b : List ℕ) (r : Granted) → r ≡ plainly 0 → verdict_on m (state_as s) t (access w k u φ) b ≡ pass
+    → handed s t (Ok r) ≡ ruling_on m (state_as s) t (access w k u φ) b
 unfolding granting
-access-grants m s t w k u φ b r e h = decided-pass m (state_as s) t (access w k u φ) b (handed r t) (rw e refl) h
+access-grants m s t w k u φ b r e h = decided-pass m (state_as s) t (access w k u φ) b (handed s t (Ok r)) (rw e refl) h

@@ -1,9 +1,9 @@
 // Writes that issue nothing: an entry freed or altered, and the root alone.
-ghost use Rattle.std.specs.Prelude.{◌≡◌, ◌+◌, ◌*◌, ◌^◌, ◌≤◌, ◌<◌, length};
+ghost use Rattle.std.specs.Prelude.{◌≡◌, [], ◌+◌, ◌*◌, ◌^◌, ◌≤◌, ◌<◌, length};
 ghost use Rattle.layout.specs.Entry.{entry_of, recounted, relocked, words_number};
 ghost use Rattle.machine.specs.Parts.{most_free, put};
 ghost use Rattle.machine.specs.Writes as write;
-ghost use Rattle.table.specs.Left.{begun_as, left_by};
+ghost use Rattle.table.specs.Left.{left_as, left_by};
 ghost use Rattle.table.specs.States.{state_as};
 
 use bits::slice::clear;
@@ -70,23 +70,24 @@ pub fn relock(table: &mut [u8], n: usize, w: Words, locked: bool, holder: u64)
 // The root over all of memory, of so many bytes, and zeros for all other entries. The state is
 // replaced: every number but 0 is free.
 pub fn begin(
-    mut s: StateWords,
+    s: &mut StateWords,
     table: &mut [u8],
     memory: u64,
     key0: u64,
     key1: u64,
     first_nonce: u64,
-) -> StateWords
+)
     requires { (32 ≤ length table.old) × (memory < 2 ^ 32) }
-    ensures { begun_as result table.new ≡ left_by (write.write 0 (write.opened (state_as s) table.old) (write.begin memory key0 key1 first_nonce)) }
+    ensures { left_as s.new table.new [] ≡ left_by (write.write 0 (write.opened (state_as s.old) table.old) (write.begin memory key0 key1 first_nonce)) }
 {
-    let top = most_free(table);
+    let total = most_free(table);
     clear(table);
     put_words(table, 0, issued_direct(0, memory as u32, 0, 7, true));
-    s.key0 = key0;
-    s.key1 = key1;
-    s.last = 0;
-    s.next = first_nonce;
-    s.total = top;
-    s
+    *s = StateWords {
+        key0,
+        key1,
+        last: 0,
+        next: first_nonce,
+        total,
+    };
 }

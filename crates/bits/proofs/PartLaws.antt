@@ -1,12 +1,13 @@
--- A part of a slice that was lent comes back with other bytes: they are stored there.
+-- A part of a slice that was lent comes back with other bytes: they are stored there. The parts of eight bytes.
 -- Assumes nothing.
 use mathlib.Core.Path.{◌≡◌, refl, sym, ◌∙◌, ap}
-use mathlib.Core.List.{List, ◌++◌, append_assoc}
-use Prim.Native.Nat.{ℕ, ◌+◌, ◌-◌, ◌≤◌}
+use mathlib.Core.List.{List, [], ◌++◌, append_assoc}
+use Prim.Native.Nat.{ℕ, zero, suc, ◌+◌, ◌-◌, ◌*◌, ◌<◌, ◌≤◌}
 use native.Mathlib.Nat.{add-sub_cancel_left}
 use native.Mathlib.Omega.{arith}
-use lib.ListN.{drop, length, length-append, length-drop, length-replicate, length-take, replicate, take, take-append-drop}
-use lib.Seq.{drop-drop, sets, sets-eq, take_all, take_at}
+use lib.ListN.{get_or, drop, length, length-append, length-drop, length-replicate, length-take, replicate, take, take-append-drop}
+use lib.Seq.{drop-drop, sets, sets-eq, take_at}
+use Rattle.std.specs.Simd.{first_chunks}
 use borrow.Rule.Slice.PartMut.{mid_of, put_mid}
 
 pub part-stored : (xs ys : List ℕ) (a k : ℕ) → length ys ≡ k → a + k ≤ length xs → put_mid a k xs ys ≡ sets xs a ys
@@ -23,10 +24,6 @@ part-cleared xs ys a k h z =
     let zeros : ys ≡ replicate k 0 = rw (add-sub_cancel_left, long) at z in
     rw (add-sub_cancel_left, zeros) (part-stored xs (replicate k 0) a k (length-replicate k 0) h)
 
--- all is copied when as many elements are equal as the lists have
-pub all_copied : (to from : List ℕ) (i : ℕ) → length to ≡ length from → length from ≤ i → take i to ≡ take i from → to ≡ from
-all_copied to from i l h e = sym (take_all i to (omega arith)) ∙ e ∙ take_all i from h
-
 -- the first a + k elements are the first a, and k behind them
 front : (xs : List ℕ) (a k : ℕ) → a + k ≤ length xs → take (a + k) xs ≡ take a xs ++ take k (drop a xs)
 front xs a k h =
@@ -41,3 +38,9 @@ more_copied to from ys a b h i l e z =
     let long : length (take a from ++ ys) ≡ b = simp (z, length-append, length-take, length-drop) (omega arith) in
     let there : take b (put_mid a (b - a) to ys) ≡ take a from ++ ys = rw e (ap (take b) (sym (append_assoc (take a from) ys (drop (b - a) (drop a to)))) ∙ take_at (take a from ++ ys) (drop (b - a) (drop a to)) b long) in
     there ∙ rw z (sym (front from a (b - a) (omega arith)) ∙ ap (λ (n : ℕ). take n from) sum)
+
+-- part i of a list that is cut into parts of eight
+pub chunk_at : (k i : ℕ) (s : List ℕ) → i < k → get_or (first_chunks 8 k s) i [] ≡ take 8 (drop (8 * i) s)
+chunk_at zero i s h = absurd (omega arith)
+chunk_at (suc k) zero s h = refl
+chunk_at (suc k) (suc i) s h = let e : 8 + 8 * i ≡ 8 * suc i = omega arith in chunk_at k i (drop 8 s) (omega arith) ∙ ap (take 8) (drop-drop (8 * i) 8 s ∙ ap (λ n. drop n s) e)

@@ -3,19 +3,22 @@
 use mathlib.Core.Path.{◌≡◌, refl, ap, ap₂, ◌∙◌, subst}
 use mathlib.Core.List.{List, [], ◌∷◌, ◌++◌}
 use Prim.Native.Nat.{ℕ, zero, suc, ◌+◌, ◌-◌, ◌*◌, ◌/◌, ◌%◌, ◌^◌, ◌≤◌, ◌<◌}
-use native.Mathlib.Nat.{add-sub_cancel_left, add-zero, mul-mod_left, sub-zero, suc-sub-suc}
+use native.Mathlib.Nat.{add-zero, mul-mod_left, sub-zero, suc-sub-suc}
 use native.Mathlib.Numerals.{add-one}
 use native.Mathlib.Omega.{arith}
-use lib.ListN.{length, get_or, take, drop, replicate, length-append, length-drop, length-replicate}
+use lib.ListN.{get_or, length, take, drop, replicate, length-append, length-drop, length-replicate, length-take}
 use lib.Arith.{mod-mul}
 use lib.Bits.{bit_or, bit_xor, or_shifted}
 use lib.Pow.{pow-add, pow_pos, shl-shr, shr_lt}
 use lib.Seq.{take_all, take-append-le, drop-append-le}
+use mir.Syntax.{w64}
+use Rattle.std.specs.Simd.{first_chunks}
+use Rattle.std.specs.Int.{from_le_bytes}
 use Rattle.bits.specs.Bytes.{low_number, number}
-use Rattle.bits.specs.Fields.{pack}
 use Rattle.bits.specs.SipHash.{absorb, add64, compress, finish, padded, rotl, siphash, sip_round, start, word}
 use Rattle.bits.specs.declared.siphash.Lanes.{Lanes}
-use Rattle.bits.proofs.ByteLaws.{tabulate}
+use Rattle.bits.proofs.PartLaws.{chunk_at}
+use Rattle.bits.proofs.ByteLaws.{low_read, tabulate}
 
 -- zeros after a list, up to n elements, are what the list reads past its end
 filled : (n : ℕ) (s t : List ℕ) → length s ≤ n → s ++ (replicate (n - length s) 0 ++ t) ≡ tabulate n (λ i. get_or s i 0) ++ t
@@ -41,10 +44,6 @@ pub hashed : (k0 k1 : ℕ) (m : List ℕ)
 unfolding siphash padded absorb
 hashed k0 k1 m = rw (add-one, absorb_append (length m / 8) m _ (start k0 k1) (omega arith))
 
-pub hashed_by : (k0 k1 : ℕ) (m : List ℕ) {l r : ℕ} {v w x : Lanes} → r ≡ finish x → x ≡ compress w l → w ≡ absorb (length m / 8) m v → v ≡ start k0 k1
-    → l ≡ word (padded m) (length m / 8) → r ≡ siphash k0 k1 m
-hashed_by k0 k1 m e p q t o = rw (hashed k0 k1 m, ← t, ← q, ← o, ← p) e
-
 -- which has what is left of the message, in the code's words, and reads 0 past its end
 abbrev pub rest : List ℕ → List ℕ
 rest m = take (length m - 8 * (length m / 8)) (drop (8 * (length m / 8)) m)
@@ -64,12 +63,12 @@ last_word m =
       filled 7 left (length m % 256 ∷ []) (omega arith),
     )
 
--- so it is joined from what is left, byte by byte
-pub last_joined : (m : List ℕ) {r a b c d e f g h : ℕ} → r ≡ pack (replicate 8 8) (h ∷ g ∷ f ∷ e ∷ d ∷ c ∷ b ∷ a ∷ []) → h ≡ length m % 256
-    → g ≡ get_or (rest m) 6 0 → f ≡ get_or (rest m) 5 0 → e ≡ get_or (rest m) 4 0 → d ≡ get_or (rest m) 3 0 → c ≡ get_or (rest m) 2 0 → b ≡ get_or (rest m) 1 0
-    → a ≡ get_or (rest m) 0 0 → r ≡ word (padded m) (length m / 8)
-unfolding number low_number
-last_joined m j h6 h5 h4 h3 h2 h1 h0 hh = rw last_word (rw (h6, h5, h4, h3, h2, h1, h0, hh) at j)
+-- so it is read from what is left, byte by byte
+pub last_read : (m : List ℕ) {r a b c d e f g : ℕ} → r ≡ from_le_bytes w64 (a ∷ b ∷ c ∷ d ∷ e ∷ f ∷ g ∷ length m % 256 ∷ [])
+    → a ≡ get_or (rest m) 0 0 → b ≡ get_or (rest m) 1 0 → c ≡ get_or (rest m) 2 0 → d ≡ get_or (rest m) 3 0 → e ≡ get_or (rest m) 4 0 → f ≡ get_or (rest m) 5 0
+    → g ≡ get_or (rest m) 6 0 → r ≡ word (padded m) (length m / 8)
+last_read m {r} {a} {b} {c} {d} {e} {f} {g} j h0 h1 h2 h3 h4 h5 h6 =
+    rw last_word (rw (h0, h1, h2, h3, h4, h5, h6) at (j ∙ low_read (a ∷ b ∷ c ∷ d ∷ e ∷ f ∷ g ∷ length m % 256 ∷ []) refl))
 
 -- a round by its sums and turns
 pub rounded : (v : Lanes) {a b c d e f g h i k : ℕ} → f ≡ add64 c (bit_xor e d) → g ≡ rotl (bit_xor e d) 21 → h ≡ add64 d (bit_xor b a) → i ≡ rotl (bit_xor b a) 17
@@ -78,22 +77,14 @@ pub rounded : (v : Lanes) {a b c d e f g h i k : ℕ} → f ≡ add64 c (bit_xor
 unfolding sip_round
 rounded v pf pg ph pi pk pc pa pb pd pe = rw (pk, pi, pg, pf, ph, pc, pa, pb, pd, pe)
 
--- the rounds of a word, and those of the end
-pub compressed : (v : Lanes) (m : ℕ) {x y : Lanes} → y ≡ sip_round x → x ≡ sip_round (record { v0 = v.v0; v1 = v.v1; v2 = v.v2; v3 = bit_xor v.v3 m })
-    → record { v0 = bit_xor y.v0 m; v1 = y.v1; v2 = y.v2; v3 = y.v3 } ≡ compress v m
-unfolding compress
-compressed v m q p = rw (q, p)
-
-pub finished : (v : Lanes) {x y z w : Lanes} → w ≡ sip_round z → z ≡ sip_round y → y ≡ sip_round x → x ≡ sip_round (record { v0 = v.v0; v1 = v.v1; v2 = bit_xor v.v2 0xff; v3 = v.v3 })
-    → bit_xor (bit_xor (bit_xor w.v0 w.v1) w.v2) w.v3 ≡ finish v
-unfolding finish
-finished v s r q p = rw (s, r, q, p)
-
 -- word i goes in after those before it
-pub absorb_more : (i m : ℕ) (s : List ℕ) (v : Lanes) {w x : Lanes} → w ≡ absorb i s v
-    → m ≡ low_number 8 (take (8 * i + 8 - 8 * i) (drop (8 * i) s)) → x ≡ compress w m → x ≡ absorb (i + 1) s v
+pub absorb_more : (i : ℕ) (s : List ℕ) (v : Lanes) {m : ℕ} {w x : Lanes} {ws : List (List ℕ)} → ws ≡ first_chunks 8 (length s / 8) s → i < length s / 8
+    → w ≡ absorb i s v → m ≡ from_le_bytes w64 (get_or ws i []) → x ≡ compress w m → x ≡ absorb (i + 1) s v
 unfolding absorb word
-absorb_more i m s v p q r = rw add-one (r ∙ ap₂ compress p (rw add-sub_cancel_left at q))
+absorb_more i s v {m} f h p q r =
+    let e : get_or (first_chunks 8 (length s / 8) s) i [] ≡ take 8 (drop (8 * i) s) = chunk_at (length s / 8) i s h in
+    let n : m ≡ low_number 8 (take 8 (drop (8 * i) s)) = rw (f, e) at q ∙ low_read _ (simp (length-take, length-drop) (omega arith)) in
+    rw add-one (r ∙ ap₂ compress p n)
 
 -- a word turned left is its two shifts joined by "or"
 pub turned : (x k : ℕ) → x < 2 ^ 64 → k < 64 → bit_or (x * 2 ^ k % 2 ^ 64) (x / 2 ^ (64 - k)) ≡ rotl x k

@@ -1,8 +1,6 @@
 // SipHash-2-4.
-ghost use Rattle.std.specs.Prelude.{◌≡◌, ◌*◌, ◌/◌, ◌<◌, ◌≤◌, get_or, length};
+ghost use Rattle.std.specs.Prelude.{◌≡◌, ◌/◌, ◌<◌, get_or, length};
 ghost use Rattle.bits.specs.SipHash as spec;
-
-use crate::word::{get_low, joined};
 
 #[derive(Clone, Copy)]
 pub struct Lanes {
@@ -12,7 +10,9 @@ pub struct Lanes {
     pub v3: u64,
 }
 
-// The sum modulo 2^64.
+// The sum modulo 2^64. A rule of the project: the wrapping addition and the rotation of the rounds are its own, in place of
+// the library's.
+#[tactic(auto, unfolding(crate::specs::SipHash::add64))]
 fn wrapping_add(a: u64, b: u64) -> u64
     ensures { result ≡ spec.add64 a b }
 {
@@ -24,6 +24,7 @@ fn wrapping_add(a: u64, b: u64) -> u64
 }
 
 // x turned left by k of its bits.
+#[tactic(auto, using(crate::proofs::SipLaws::turned))]
 fn rotate_left(x: u64, k: u64) -> u64
     requires { (0 < k) × (k < 64) }
     ensures { result ≡ spec.rotl x k }
@@ -31,6 +32,7 @@ fn rotate_left(x: u64, k: u64) -> u64
     (x << k) | (x >> (64 - k))
 }
 
+#[tactic(auto, using(crate::proofs::SipLaws::rounded))]
 fn sip_round(v: Lanes) -> Lanes
     ensures { result ≡ spec.sip_round v }
 {
@@ -58,49 +60,35 @@ pub fn start(k0: u64, k1: u64) -> Lanes
     }
 }
 
+#[tactic(auto, unfolding(crate::specs::SipHash::compress))]
 pub fn compress(v: Lanes, m: u64) -> Lanes
     ensures { result ≡ spec.compress v m }
 {
-    let mixed = Lanes {
-        v0: v.v0,
-        v1: v.v1,
-        v2: v.v2,
-        v3: v.v3 ^ m,
-    };
+    let mixed = Lanes { v3: v.v3 ^ m, ..v };
     let w = sip_round(sip_round(mixed));
-    Lanes {
-        v0: w.v0 ^ m,
-        v1: w.v1,
-        v2: w.v2,
-        v3: w.v3,
-    }
+    Lanes { v0: w.v0 ^ m, ..w }
 }
 
+#[tactic(auto, unfolding(crate::specs::SipHash::finish))]
 pub fn finish(v: Lanes) -> u64
     ensures { result ≡ spec.finish v }
 {
     let marked = Lanes {
-        v0: v.v0,
-        v1: v.v1,
         v2: v.v2 ^ 0xff,
-        v3: v.v3,
+        ..v
     };
     let w = sip_round(sip_round(sip_round(sip_round(marked))));
     w.v0 ^ w.v1 ^ w.v2 ^ w.v3
 }
 
-// The first words of the message go in.
-fn absorb(v: Lanes, message: &[u8], words: usize) -> Lanes
-    requires { 8 * words ≤ length message.now }
-    ensures { result ≡ spec.absorb words message.now v }
+// The whole words of the message go in.
+fn absorb(v: Lanes, message: &[u8]) -> Lanes
+    ensures { result ≡ spec.absorb (length message.now / 8) message.now v }
 {
+    let (words, _) = message.as_chunks::<8>();
     let mut lanes = v;
-    let mut i = 0;
-    while i < words {
-        let at = 8 * i;
-        let end = at + 8;
-        lanes = compress(lanes, get_low(&message[at..end]));
-        i += 1;
+    for word in words {
+        lanes = compress(lanes, u64::from_le_bytes(*word));
     }
     lanes
 }
@@ -108,33 +96,34 @@ fn absorb(v: Lanes, message: &[u8], words: usize) -> Lanes
 fn byte_or_zero(s: &[u8], i: usize) -> u8
     ensures { result ≡ get_or s.now i 0 }
 {
-    if i < s.len() { s[i] } else { 0 }
+    s.get(i).copied().unwrap_or(0)
 }
 
-// The last word of the padded message: what is left after the whole words, null bytes, and a byte for the length.
+// The last word of the padded message: what is left after the whole words, null bytes, and a byte for the length. It is
+// taken byte by byte: a copy of so few is a call of memcpy, which takes longer.
+#[tactic(auto, using(crate::proofs::SipLaws::last_read))]
 fn last_word(message: &[u8]) -> u64
     ensures { result ≡ spec.word (spec.padded message.now) (length message.now / 8) }
 {
     let length = message.len();
-    let at = 8 * (length / 8);
-    let rest = &message[at..];
-    joined(
-        (length % 256) as u8,
-        byte_or_zero(rest, 6),
-        byte_or_zero(rest, 5),
-        byte_or_zero(rest, 4),
-        byte_or_zero(rest, 3),
-        byte_or_zero(rest, 2),
-        byte_or_zero(rest, 1),
+    let rest = &message[8 * (length / 8)..];
+    u64::from_le_bytes([
         byte_or_zero(rest, 0),
-    )
+        byte_or_zero(rest, 1),
+        byte_or_zero(rest, 2),
+        byte_or_zero(rest, 3),
+        byte_or_zero(rest, 4),
+        byte_or_zero(rest, 5),
+        byte_or_zero(rest, 6),
+        (length % 256) as u8,
+    ])
 }
 
 // The hash of the message under the key k0, k1.
+#[tactic(auto, using(crate::proofs::SipLaws::hashed))]
 pub fn siphash(k0: u64, k1: u64, message: &[u8]) -> u64
     ensures { result ≡ spec.siphash k0 k1 message.now }
 {
-    let words = message.len() / 8;
-    let v = absorb(start(k0, k1), message, words);
+    let v = absorb(start(k0, k1), message);
     finish(compress(v, last_word(message)))
 }

@@ -3,6 +3,7 @@
 use mathlib.Core.Path.{◌≡◌, refl, sym, ◌∙◌, ap, subst}
 use mathlib.Core.Bool.{Bool, true, false, not, ◌&&◌, cond}
 use mathlib.Core.List.{List, [], ◌∷◌}
+use Rattle.std.specs.Prelude.{Result, Ok}
 use Prim.Native.Nat.{ℕ, ◌+◌, ◌*◌, ◌/◌, ◌≤◌, ◌<◌}
 use native.Mathlib.Omega.{arith}
 use lib.Dec.{eqb, ltb}
@@ -23,8 +24,7 @@ use Rattle.machine.proofs.Fuel.{line_formed_lem, walk-owner}
 use Rattle.table.proofs.LineLaws.{own_owner}
 use Rattle.checks.specs.Holds.{named_holds, ReadAs}
 use Rattle.checks.specs.Reached.{formed_verdict, live_verdict, Near, page_verdict, Reaches, reach_verdict}
-use Rattle.checks.specs.declared.reach.Reached.{Reached}
-use Rattle.checks.specs.declared.reach.Reached.TheVariants as reached
+use Rattle.checks.specs.declared.refusal.Refusal as code
 use Rattle.checks.proofs.VerdictLaws.{all_pass, all_stop, first_passes, first_stops, parts-pass}
 
 -- the number that a verdict tells, 0 for a pass
@@ -46,6 +46,14 @@ module _ (t : List ℕ) (k n g : ℕ) (is : ReadAs k n g) where
 -- a token that is read as n is read as n's number and tag
 pub read_as : (k : ℕ) (n : Named) → n ≡ named k → ReadAs k n.number n.tag
 read_as k n is = record { numbered = ap (λ (x : Named). x.number) is; tagged = ap (λ (x : Named). x.tag) is }
+
+-- what is so of the entry of number n is so of the one that the token k names
+module _ (k : ℕ) (n : Named) (is : n ≡ named k) where
+  pub unpaged : (t : List ℕ) {b : Bool} → b ≡ is_paged (at t n.number) → is_paged (named_entry t k) ≡ b
+  unpaged t h = sym (h ∙ ap (λ (x : Named). is_paged (at t x.number)) is)
+
+  pub ill_named : (m : ℕ) (t : List ℕ) (e : Entry) {b : Bool} → e ≡ at t n.number → b ≡ ill_formed m e → ill_formed m (named_entry t k) ≡ b
+  ill_named m t e q h = sym (h ∙ ap (ill_formed m) q ∙ ap (λ (x : Named). ill_formed m (at t x.number)) is)
 
 -- an entry that is named stands in the table
 pub size_in : (t : List ℕ) (n : ℕ) → ltb n (size t) ≡ true → 32 * n + 32 ≤ length t
@@ -208,7 +216,7 @@ pub reached_inside : (m : ℕ) (t : List ℕ) (n : ℕ) → not (eqb (at t n).ki
 reached_inside m t n full here formed = (range m (at t n) (present (at t n) full here) (line_formed_lem m t n formed)).1
 
 -- what a token came to is known of a verdict that is the same
-pub reaches_as : (t : List ℕ) (r : Reached) (l : Line) (v w : Verdict) → w ≡ v → Reaches t r v l → Reaches t r w l
+pub reaches_as : (t : List ℕ) (r : Result ℕ code.Refusal) (l : Line) (v w : Verdict) → w ≡ v → Reaches t r v l → Reaches t r w l
 reaches_as t r l v w e h = subst (λ (x : Verdict). Reaches t r x l) (sym e) h
 
 -- ---- a direct, well-formed entry is its own owner
@@ -228,5 +236,5 @@ module _ (m : ℕ) (t : List ℕ) (k : ℕ) (n : Named) (is : n ≡ named k) (h 
       let one = h.direct in
       subst (λ (x : Named). is_paged (at t x.number) ≡ false) is (ne_eqb (at t n.number).kind 3 (λ q. absurd (omega (arith, one, q))))
 
-  pub near_reaches : Reaches t (reached.Owner n.number) (live_verdict m t k) (line_of m t (number_of k))
+  pub near_reaches : Reaches t (Ok n.number) (live_verdict m t k) (line_of m t (number_of k))
   near_reaches = let i = h.inside in (live-owner m t k near-named near-here n.number near-line, (near-line, omega arith))

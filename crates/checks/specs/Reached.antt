@@ -1,6 +1,6 @@
 -- What the checks of a token come to.
 -- Assumes nothing.
-use Rattle.std.specs.Prelude.{◌≡◌, Bool, false, List, ℕ, ◌+◌, ◌*◌, ◌/◌, ◌≤◌, ◌<◌, length}
+use Rattle.std.specs.Prelude.{◌≡◌, Bool, false, Result, Ok, Err, List, ℕ, ◌+◌, ◌*◌, ◌/◌, ◌≤◌, ◌<◌, length}
 use Rattle.tokens.specs.declared.token.Named.{Named}
 use Rattle.layout.specs.Form.{ill_formed}
 use Rattle.machine.specs.Line.{Line, owner}
@@ -8,12 +8,7 @@ use Rattle.machine.specs.Parts.{at}
 use Rattle.machine.specs.Steps.{pass, Verdict, verdict}
 use Rattle.machine.specs.Stops.{formed, live, page_reachable, reachable}
 use Rattle.checks.specs.Refusals.{stop_as}
-use Rattle.checks.specs.declared.reach.Formed.{Formed}
-use Rattle.checks.specs.declared.reach.Formed.TheVariants as held
-use Rattle.checks.specs.declared.reach.Passing.{Passing}
-use Rattle.checks.specs.declared.reach.Passing.TheVariants as passing
-use Rattle.checks.specs.declared.reach.Reached.{Reached}
-use Rattle.checks.specs.declared.reach.Reached.TheVariants as reached
+use Rattle.checks.specs.declared.refusal.Refusal.{Refusal}
 
 -- the verdicts on a token: of places 2 and 3, of places 2 to 4, and of places 2 to 5
 unfoldable pub formed_verdict : ℕ → List ℕ → ℕ → Verdict
@@ -29,20 +24,15 @@ reach_verdict m t k u = verdict (reachable m t k u)
 unfoldable pub page_verdict : ℕ → List ℕ → (token task : ℕ) → Verdict
 page_verdict m t k u = verdict (page_reachable m t k u)
 
--- the checks came to the verdict v
-abbrev pub Passes : Passing → Verdict → Type 0
-Passes (passing.Stop why) v = v ≡ stop_as why
-Passes passing.Pass v = v ≡ pass
-
 -- the checks of a token came to the verdict v, and its line in the table t to l
-abbrev pub Reaches : List ℕ → Reached → Verdict → Line → Type 0
-Reaches t (reached.Stop why) v l = v ≡ stop_as why
-Reaches t (reached.Owner o) v l = (v ≡ pass) × ((l ≡ owner o) × (32 * o + 32 ≤ length t))
+abbrev pub Reaches : List ℕ → Result ℕ Refusal → Verdict → Line → Type 0
+Reaches t (Err why) v l = v ≡ stop_as why
+Reaches t (Ok o) v l = (v ≡ pass) × ((l ≡ owner o) × (32 * o + 32 ≤ length t))
 
 -- the checks came to the verdict v, and the line's lock is b
-abbrev pub Forms : Formed → Verdict → Bool → Type 0
-Forms (held.Stop why) v b = v ≡ stop_as why
-Forms (held.Locked l) v b = (v ≡ pass) × (l ≡ b)
+abbrev pub Forms : Result Bool Refusal → Verdict → Bool → Type 0
+Forms (Err why) v b = v ≡ stop_as why
+Forms (Ok l) v b = (v ≡ pass) × (l ≡ b)
 
 -- a token that is read as n names a direct, well-formed entry
 pub record Near (m : ℕ) (t : List ℕ) (n : Named) : Type 0 where

@@ -1,8 +1,9 @@
 -- The code's refusals in the machine's terms ("When an answer is an enum, a definition gives this paper's number and values for each of its cases": these
 -- are `refusal_number` and `refusal_bad` of machine's `Stops`).
 -- Assumes nothing.
+use Rattle.std.specs.Prelude.{Result, Ok, Err}
 use Rattle.machine.specs.Line as line
-use Rattle.machine.specs.Steps.{stop, Verdict}
+use Rattle.machine.specs.Steps.{pass, stop, Verdict}
 use Rattle.machine.specs.Stops as stops
 use Rattle.checks.specs.declared.refusal.Bad.{Bad}
 use Rattle.checks.specs.declared.refusal.Bad.TheVariants.{Ancestor, Named}
@@ -35,3 +36,8 @@ refusal_as Paged = stops.at_paged
 -- the verdict of a refusal
 abbrev pub stop_as : Refusal → Verdict
 stop_as why = stop (refusal_as why)
+
+-- what checks that give nothing come to
+abbrev pub checked_as : Result Unit Refusal → Verdict
+checked_as (Err why) = stop_as why
+checked_as (Ok z) = pass

@@ -6,8 +6,5 @@ ghost use Rattle.std.specs.Prelude.{◌≡◌, ◌+◌, leb};
 pub fn inside(a: u64, b: u64, length: u64) -> bool
     ensures { result ≡ leb (a + b) length }
 {
-    if length < b {
-        return false;
-    }
-    if a <= length - b { true } else { false }
+    b <= length && a <= length - b
 }

@@ -1,5 +1,5 @@
 // Refusals. Inside an answer a refusal tells its place, and for 3 and 4 which entry was the bad one.
-ghost use Rattle.std.specs.Prelude.{◌≡◌};
+ghost use Rattle.std.specs.Prelude.{◌≡◌, eqb};
 ghost use Rattle.machine.specs.Stops.{bad_number, refusal_bad, refusal_number};
 ghost use Rattle.checks.specs.Refusals.{bad_as, refusal_as};
 
@@ -50,6 +50,15 @@ pub enum Refusal {
     Paged,
 }
 
+impl Refusal {
+    // It is 4.
+    pub(crate) fn is_dead(self) -> bool
+        ensures { result ≡ eqb (refusal_number (refusal_as self)) 4 }
+    {
+        matches!(self, Refusal::Dead(_))
+    }
+}
+
 // 01's number of a refusal, and which entry was bad: 0 if it tells of none.
 #[derive(Clone, Copy)]
 pub struct RefusalWords {
@@ -57,12 +66,15 @@ pub struct RefusalWords {
     pub bad: u64,
 }
 
-fn bad_number(bad: Bad) -> u64
-    ensures { result ≡ bad_number (bad_as bad) }
-{
-    match bad {
-        Bad::Named => 1,
-        Bad::Ancestor => 2,
+// 1 the named entry, 2 an ancestor.
+impl From<Bad> for u64 {
+    ghost from_gives = { λ bad number. number ≡ bad_number (bad_as bad) };
+
+    fn from(bad: Bad) -> u64 {
+        match bad {
+            Bad::Named => 1,
+            Bad::Ancestor => 2,
+        }
     }
 }
 
@@ -73,32 +85,34 @@ fn plain(number: u64) -> RefusalWords
 }
 
 // The numbers of a refusal.
-pub fn told(why: Refusal) -> RefusalWords
-    ensures { (result.number ≡ refusal_number (refusal_as why)) × (result.bad ≡ refusal_bad (refusal_as why)) }
-{
-    match why {
-        Refusal::Request => plain(1),
-        Refusal::Entry => plain(2),
-        Refusal::IllFormed(bad) => RefusalWords {
-            number: 3,
-            bad: bad_number(bad),
-        },
-        Refusal::Dead(bad) => RefusalWords {
-            number: 4,
-            bad: bad_number(bad),
-        },
-        Refusal::Lock => plain(5),
-        Refusal::Kind => plain(6),
-        Refusal::Right => plain(7),
-        Refusal::Bounds => plain(8),
-        Refusal::Standing => plain(9),
-        Refusal::Numbers => plain(10),
-        Refusal::Nonces => plain(11),
-        Refusal::Record => plain(12),
-        Refusal::Checksum => plain(13),
-        Refusal::Room => plain(14),
-        Refusal::Window => plain(15),
-        Refusal::Lease => plain(16),
-        Refusal::Paged => plain(17),
+impl From<Refusal> for RefusalWords {
+    ghost from_gives = { λ why words. (words.number ≡ refusal_number (refusal_as why)) × (words.bad ≡ refusal_bad (refusal_as why)) };
+
+    fn from(why: Refusal) -> RefusalWords {
+        match why {
+            Refusal::Request => plain(1),
+            Refusal::Entry => plain(2),
+            Refusal::IllFormed(bad) => RefusalWords {
+                number: 3,
+                bad: bad.into(),
+            },
+            Refusal::Dead(bad) => RefusalWords {
+                number: 4,
+                bad: bad.into(),
+            },
+            Refusal::Lock => plain(5),
+            Refusal::Kind => plain(6),
+            Refusal::Right => plain(7),
+            Refusal::Bounds => plain(8),
+            Refusal::Standing => plain(9),
+            Refusal::Numbers => plain(10),
+            Refusal::Nonces => plain(11),
+            Refusal::Record => plain(12),
+            Refusal::Checksum => plain(13),
+            Refusal::Room => plain(14),
+            Refusal::Window => plain(15),
+            Refusal::Lease => plain(16),
+            Refusal::Paged => plain(17),
+        }
     }
 }

@@ -22,7 +22,9 @@ use Rattle.machine.proofs.Fuel.{climb_fuel}
 use Rattle.machine.proofs.TableLaws.{length-put, vacated-other}
 use Rattle.table.proofs.LineLaws.{walk_in, walk_less}
 use Rattle.table.specs.Left.{Left, left_by}
-use Rattle.climbs.specs.Climbs.{Ahead, Climbed, climbed, Climbs, count_of, leaving, Onward, Packs, raised, yet}
+use Rattle.std.specs.Prelude.{Option, Some, None}
+use Rattle.std.specs.Option.{SomeIff}
+use Rattle.climbs.specs.Climbs.{Ahead, Climbed, climbed, Climbs, count_of, leaving, Onward, Packs, raised, word_of, yet}
 
 -- ---- the climb
 
@@ -174,21 +176,27 @@ further : {k : ℕ} {t : List ℕ} {n k' : ℕ} {t' : List ℕ} {p : ℕ} → On
 further o h =
     record { ended = λ z. o.rest _ _ (h.ended z); onward = λ z. let q = h.onward z in record { inside = q.inside; rest = λ k''' t''' i. o.rest k''' t''' (q.rest k''' t''' i) } }
 
--- a turn of the loop, from the word c
-module _ (t' : List ℕ) (r : ℕ) (t'' : List ℕ) (c : ℕ) (some : r ≡ 0 → ⊥) (h : Packs 0 t' (r - 1) t'' c) where
-  pub yet_less : yet t'' (c / 16) < yet t' r
-  yet_less = omega (arith, h.climbs.older, yet_some t' r some)
+-- a turn of the loop, which drops entry p and comes to the word c
+module _ (t' : List ℕ) (p : ℕ) (t'' : List ℕ) (c : ℕ) (h : Packs 0 t' p t'' c) where
+  pub yet_less : yet t'' (c / 16) < yet t' (p + 1)
+  yet_less = omega (arith, h.climbs.older, yet_next t' p)
 
-  pub ahead_on : (k : ℕ) (t : List ℕ) (n top k' k'' : ℕ) → top ≡ most_free t → length t' ≡ length t → Ahead k t n k' t' r → k'' ≡ raised top (c % 16) k' → Ahead k t n k'' t'' (c / 16)
+  pub ahead_on : (k : ℕ) (t : List ℕ) (n top k' k'' : ℕ) → top ≡ most_free t → length t' ≡ length t → Ahead k t n k' t' (p + 1) → k'' ≡ raised top (c % 16) k' → Ahead k t n k'' t'' (c / 16)
   unfolding size
   ahead_on k t n top k' k'' up long a raise =
       let same : most_free t' ≡ most_free t = rw long refl in
       let all : c % 16 - 0 ≡ c % 16 = omega arith in
-      let on : Ahead k t n (raised (most_free t') (c % 16 - 0) k') t'' (c / 16) = further (a.onward some) (h.climbs.ahead k') in
+      let past : Onward k t n k' t' p = rw (before p) at (a.onward (λ z. absurd (omega arith))) in
+      let on : Ahead k t n (raised (most_free t') (c % 16 - 0) k') t'' (c / 16) = further past (h.climbs.ahead k') in
       rw (raise, up, ← same) (subst (λ (x : ℕ). Ahead k t n (raised (most_free t') x k') t'' (c / 16)) all on)
 
   pub long_on : (t : List ℕ) → length t' ≡ length t → length t'' ≡ length t
   long_on t long = h.climbs.long ∙ long
+
+-- one less, where there is one less, is the number that a word tells
+pub word_told : (o : Option ℕ) (c : ℕ) → SomeIff o (1 ≤ c) (c - 1) → word_of o ≡ c
+word_told None c h = omega (arith, h)
+word_told (Some p) c h = omega (arith, h)
 
 pub neither : (a b : Bool) → (a || b) ≡ false → (a ≡ false) × (b ≡ false)
 neither false b h = (refl, h)

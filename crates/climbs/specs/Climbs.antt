@@ -1,6 +1,6 @@
 -- A drop's climb, as the total of free numbers and the table that it leaves: it issues nothing, so that nothing else of the state matters.
 -- Assumes nothing.
-use Rattle.std.specs.Prelude.{◌≡◌, cond, List, [], ℕ, suc, ◌+◌, ◌-◌, ◌*◌, ◌/◌, ◌%◌, ◌≤◌, eqb, leb, ltb, length}
+use Rattle.std.specs.Prelude.{◌≡◌, cond, Option, Some, None, List, [], ℕ, suc, ◌+◌, ◌-◌, ◌*◌, ◌/◌, ◌%◌, ◌≤◌, eqb, leb, ltb, length}
 use Rattle.table.specs.Left.{Left, left_by}
 use Rattle.machine.specs.Operations.{climb}
 use Rattle.machine.specs.Parts.{at, most_free, State, totalled}
@@ -26,6 +26,11 @@ pub record Onward (k : ℕ) (t : List ℕ) (n : ℕ) (k' : ℕ) (t' : List ℕ) 
 pub record Ahead (k : ℕ) (t : List ℕ) (n : ℕ) (k' : ℕ) (t' : List ℕ) (r : ℕ) : Type 0 where
   pub ended : r ≡ 0 → Climbed k t n k' t'
   pub onward : (r ≡ 0 → ⊥) → Onward k t n k' t' (r - 1)
+
+-- the number that is dropped next, if there is one, as such an r
+abbrev pub word_of : Option ℕ → ℕ
+word_of None = 0
+word_of (Some p) = p + 1
 
 -- what a freed number counts: number 0 nothing
 abbrev pub count_of : ℕ → ℕ

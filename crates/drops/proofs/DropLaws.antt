@@ -3,6 +3,7 @@
 use mathlib.Core.Path.{◌≡◌, refl, sym, ◌∙◌, ap}
 use mathlib.Core.Bool.{Bool, true, false, not, ◌&&◌, cond}
 use mathlib.Core.List.{List, [], ◌∷◌}
+use Rattle.std.specs.Prelude.{Ok}
 use Prim.Native.Nat.{ℕ, suc, ◌+◌, ◌*◌, ◌≤◌}
 use lib.Dec.{eqb}
 use lib.ListN.{length}
@@ -27,7 +28,7 @@ use Rattle.table.specs.Left.{Left, left_by}
 use Rattle.table.specs.States.{retotalled, state_as}
 use Rattle.table.specs.declared.state.StateWords.{StateWords}
 use Rattle.rulings.specs.Rulings.{granting, handed, plainly, Ruling, tokens_on, verdict_on}
-use Rattle.rulings.specs.declared.reply.Outcome.{Outcome}
+use Rattle.rulings.specs.declared.reply.Granted.{Granted}
 use Rattle.rulings.proofs.AllotLaws.{request-limits}
 use Rattle.rulings.proofs.RulingLaws.{rest_alone, token-passes, tokens-passed}
 use Rattle.climbs.specs.Climbs.{Climbed, climbed, leaving}
@@ -86,15 +87,15 @@ module _ (m : ℕ) (s : StateWords) (t : List ℕ) (k : ℕ) (n : Named) (e : En
       (by_both (λ ws l. left_by (written 0 (opened (state_as s) t) ws) ≡ l) (eqb (at t (number_of k)).count 1 && is_locked t (line_of m t (number_of k))) (λ h. refl) (λ h. refl))
       ∙ rw (lock, there, is)
 
-  pub drop-kept : (r : Outcome) → (eqb e.count 1 && b) ≡ true → r ≡ plainly s 0 → handed r t ≡ granting m (state_as s) t (release k) []
+  pub drop-kept : (r : Granted) → (eqb e.count 1 && b) ≡ true → r ≡ plainly 0 → handed s t (Ok r) ≡ granting m (state_as s) t (release k) []
   drop-kept r h done = let h = both (eqb e.count 1) b h in rw done (sym (ruling ∙ rw (h.0, h.1)))
 
   -- the drop has climbed, at count 1 or above
-  module _ (r : Outcome) (k' : ℕ) (t' : List ℕ) (up : Climbed s.total t n.number k' t') (unlocked : (eqb e.count 1 && b) ≡ false) where
-    pub drop_one : eqb e.count 1 ≡ true → r ≡ plainly (retotalled s k') 1 → handed r t' ≡ granting m (state_as s) t (release k) []
+  module _ (r : Granted) (k' : ℕ) (t' : List ℕ) (up : Climbed s.total t n.number k' t') (unlocked : (eqb e.count 1 && b) ≡ false) where
+    pub drop_one : eqb e.count 1 ≡ true → r ≡ plainly 1 → handed (retotalled s k') t' (Ok r) ≡ granting m (state_as s) t (release k) []
     drop_one h done =
         let free : b ≡ false = rw h at unlocked in
         rw done (ap (λ (l : Left). over l 1) (up (state_as s)) ∙ sym (ruling ∙ rw (h, free)))
 
-    pub drop_more : eqb e.count 1 ≡ false → r ≡ plainly (retotalled s k') 0 → handed r t' ≡ granting m (state_as s) t (release k) []
+    pub drop_more : eqb e.count 1 ≡ false → r ≡ plainly 0 → handed (retotalled s k') t' (Ok r) ≡ granting m (state_as s) t (release k) []
     drop_more h done = rw done (ap (λ (l : Left). over l 0) (up (state_as s)) ∙ sym (ruling ∙ rw h))

@@ -4,7 +4,7 @@ use mathlib.Core.Path.{◌≡◌, refl, sym, ap, ◌∙◌}
 use mathlib.Core.Bool.{false, not, ◌&&◌, cond}
 use mathlib.Core.Logic.{◌⊎◌, inl, inr}
 use mathlib.Core.List.{List}
-use Prim.Native.Nat.{ℕ, zero, suc, ◌+◌, ◌-◌, ◌/◌, ◌%◌, ◌≤◌, ◌<◌}
+use Prim.Native.Nat.{ℕ, zero, suc, ◌+◌, ◌-◌, ◌≤◌, ◌<◌}
 use native.Mathlib.Omega.{arith}
 use lib.Dec.{eqb}
 use borrow.Author.Tests.{eq-eqb, eqb-false, eqb-true, ne_eqb, not-false}
@@ -15,7 +15,8 @@ use Rattle.machine.specs.Parts.{moved, put, spent, State}
 use Rattle.machine.proofs.Choices.{by_both, by_cond}
 use Rattle.machine.proofs.Fuel.{other-least, pass_over_lem}
 use Rattle.machine.proofs.TableLaws.{at_other}
-use Rattle.entering.specs.Nonces.{Finds, FindsTwo, keyed}
+use Rattle.std.specs.Prelude.{Some, None}
+use Rattle.entering.specs.Nonces.{FindsTwo, Sought, SoughtTwo}
 use Rattle.entering.specs.declared.nonces.Found.{Found}
 use Rattle.entering.specs.declared.nonces.FoundTwo.{FoundTwo}
 
@@ -52,13 +53,13 @@ unfolding pass_over
 pass-moved zero s l ν k n e old x = refl
 pass-moved (suc tries) s l ν k n e old x = rw (pass-moved tries s l ν k n e old (x + 1))
 
-by_key : (tries : ℕ) (s : State) (n : ℕ) (e : ℕ → Entry) (old x : ℕ) → pass_over tries (keyed s.key0 s.key1) n e old x ≡ pass_over tries s n e old x
-by_key tries s n e old x = sym (pass-moved tries (keyed s.key0 s.key1) s.last s.next s.total n e old x)
+-- what a search from the old tag, which the entry last held, has come to
+module _ (s : State) (t : List ℕ) (n old : ℕ) (e : Entry) (held : old ≡ last_held t n) where
+  pub finds : (r : Found) → r.nonce < spent → r.tag ≡ (issue s n (dated e r.nonce)).tag → r.nonce ≡ pass_over (spent - s.next) s n (dated e) old s.next → Sought s t n e (Some r)
+  finds r l g h = record { nonce = h ∙ rw held; left = l; tag = g }
 
--- a search from the tag that the entry last held, which hands back a word
-pub finds : (s : State) (t : List ℕ) (n old : ℕ) (e : Entry) (word : ℕ) (r : Found) → old ≡ last_held t n → word / 65536 ≡ pass_over (spent - s.next) (keyed s.key0 s.key1) n (dated e) old s.next
-    → (word / 65536 < spent → word % 65536 ≡ (issue s n (dated e (word / 65536))).tag) → r.nonce ≡ word / 65536 → r.tag ≡ word % 65536 → Finds s t n e r
-finds s t n old e word r h a b x y = record { nonce = x ∙ a ∙ by_key _ s n (dated e) old s.next ∙ rw h; tag = λ l. y ∙ rw x (b (omega arith)) }
+  pub finds_none : pass_over (spent - s.next) s n (dated e) old s.next ≡ spent → Sought s t n e None
+  finds_none h = rw (← held) h
 
 -- ---- two issues, one behind the other
 
@@ -124,23 +125,14 @@ module _ (s : State) (t : List ℕ) (n k : ℕ) (e f : Entry) (apart : n ≡ k �
   found-both r left inv a b p q =
       let both = tries-both s n k (dated e) (dated f) last kept _ _ _ _ inv left a b p q in
       record {
-        left = λ h. omega (arith, inv.behind);
-        one = λ h. record { nonce = both.0 ∙ rw held; tag = λ z. a };
-        two = λ h l total. record { nonce = both.1 ∙ behind l total r.first.nonce; tag = λ z. b };
-        none = λ h. absurd (omega arith);
+        one = record { nonce = both.0 ∙ rw held; left = omega (arith, inv.behind); tag = a };
+        two = λ l total. record { nonce = both.1 ∙ behind l total r.first.nonce; left = left; tag = b };
       }
 
   -- there are no two
-  pub found_none : (r : FoundTwo) → spent ≤ r.second.nonce → Tries s n k (dated e) (dated f) last kept r.first.nonce r.second.nonce → FindsTwo s t n e k f r
-  found_none r end inv =
-      record { left = λ h. absurd (omega arith); one = λ h. absurd (omega arith); two = λ h. absurd (omega arith); none = λ h l total. go l total inv.done }
+  pub found_none : (one two : ℕ) → spent ≤ two → Tries s n k (dated e) (dated f) last kept one two → SoughtTwo s t n e k f None
+  found_none one two end inv = λ l total. go l total inv.done
     where
-      one : ℕ
-      one = r.first.nonce
-
-      two : ℕ
-      two = r.second.nonce
-
       ν : ℕ
       ν = other_nonce s t n (dated e)
 

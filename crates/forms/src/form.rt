@@ -2,28 +2,27 @@
 ghost use Rattle.std.specs.Prelude.{false, ◌≡◌};
 ghost use Rattle.layout.specs.Form.{faults_of, ill_formed, or_some};
 
-use layout::entry::Entry;
+use layout::entry::{DIRECT, Entry, FREE, INDIRECT, PAGED};
 use tokens::token::encoding;
 
 fn ill_direct(memory: u64, e: Entry) -> bool
     ensures { result ≡ or_some false (faults_of 1 memory e) }
 {
-    let end = (e.base as u64) + (e.length as u64);
+    let end = u64::from(e.base) + u64::from(e.length);
     (e.length == 0) | (memory < end) | e.cow | (e.locked == (e.holder == 0))
 }
 
 fn ill_indirect(memory: u64, e: Entry) -> bool
     ensures { result ≡ or_some false (faults_of 2 memory e) }
 {
-    let end = (e.base as u64) + (e.length as u64);
-    let parent = encoding(e.parent);
+    let end = u64::from(e.base) + u64::from(e.length);
     (e.length == 0)
         | (memory < end)
         | e.cow
         | e.locked
         | e.lockable
         | (e.zeros != 0)
-        | (parent != 1)
+        | (encoding(e.parent) != 1)
 }
 
 // An entry that is paged out has no place in memory.
@@ -33,16 +32,15 @@ fn ill_paged(memory: u64, e: Entry) -> bool
     (e.length == 0) | e.cow | e.locked | (e.zeros != 0)
 }
 
-// The entry is ill-formed. A free one never is.
+// The entry is ill-formed. A free one never is. Its type may be any number (`layout::entry`).
 pub fn ill_formed(memory: u64, e: Entry) -> bool
     ensures { result ≡ ill_formed memory e }
 {
-    let kind = e.kind;
-    match kind {
-        0 => false,
-        1 => ill_direct(memory, e),
-        2 => ill_indirect(memory, e),
-        3 => ill_paged(memory, e),
+    match e.kind {
+        FREE => false,
+        DIRECT => ill_direct(memory, e),
+        INDIRECT => ill_indirect(memory, e),
+        PAGED => ill_paged(memory, e),
         _ => true,
     }
 }

@@ -14,7 +14,10 @@ use Rattle.hexfile.proofs.LineLaws.{below}
 use Rattle.hexfile.proofs.ReadLaws.{bad, ends, held, holds, Kind, Passed, passed, passed-long, passed-read, refused-read, Seen, seen, turns, wrong}
 use Rattle.hexread.specs.Answers.{record_in}
 use Rattle.hexread.specs.declared.record.Record.{Record}
-use Rattle.hexread.specs.declared.record.Record.TheVariants.{Data, End, Malformed, Page, WrongSum}
+use Rattle.std.specs.Prelude.{Result, Ok, Err}
+use Rattle.hexread.specs.declared.record.Fault.{Fault}
+use Rattle.hexread.specs.declared.record.Fault.TheVariants.{Malformed, WrongSum}
+use Rattle.hexread.specs.declared.record.Record.TheVariants.{Data, End, Page}
 use Rattle.hexread.proofs.LineLaws.{malformed_in, passed_in, wrong_in}
 
 never : {A : Type 0} → ◌≡◌ {A = ℕ} 0 1 → A
@@ -81,8 +84,8 @@ pub record DataRead (s : List ℕ) (a n : ℕ) : Type 0 where
   pub bytes : AllBytes (data_in s n)
   pub reads : (p : ℕ) → read p (lines s) ≡ after (piece_in s p a n) (read p (lines (drop (12 + 2 * n) s)))
 
-module _ (s : List ℕ) {k : Record} (h : record_in (lines s) ≡ k) where
-  pub bad-read : k ≡ Malformed → (p : ℕ) → read p (lines s) ≡ refused 12
+module _ (s : List ℕ) {k : Result Record Fault} (h : record_in (lines s) ≡ k) where
+  pub bad-read : k ≡ Err Malformed → (p : ℕ) → read p (lines s) ≡ refused 12
   bad-read e p = by (seen s)
     where
       by : Seen s → read p (lines s) ≡ refused 12
@@ -95,7 +98,7 @@ module _ (s : List ℕ) {k : Record} (h : record_in (lines s) ≡ k) where
           kind (ends t x y) = let i = rw t at (passed_in g) in never (cc)
           kind (turns t x y) = let i = rw t at (passed_in g) in never (cc)
 
-  pub wrong-read : k ≡ WrongSum → (p : ℕ) → read p (lines s) ≡ refused 13
+  pub wrong-read : k ≡ Err WrongSum → (p : ℕ) → read p (lines s) ≡ refused 13
   wrong-read e p = by (seen s)
     where
       by : Seen s → read p (lines s) ≡ refused 13
@@ -108,7 +111,7 @@ module _ (s : List ℕ) {k : Record} (h : record_in (lines s) ≡ k) where
           kind (ends t x y) = let i = rw t at (passed_in g) in never (cc)
           kind (turns t x y) = let i = rw t at (passed_in g) in never (cc)
 
-  pub end_read : k ≡ End → EndRead s
+  pub end_read : k ≡ Ok End → EndRead s
   end_read e = by (seen s)
     where
       by : Seen s → EndRead s
@@ -121,7 +124,7 @@ module _ (s : List ℕ) {k : Record} (h : record_in (lines s) ≡ k) where
           kind (turns t x y) = let i = rw t at (passed_in g) in never (cc)
           kind (ends t x y) = let d = tail g 0 y in record { fits = d.1; reads = λ p. passed-read g p ∙ rw (t, d.0) refl }
 
-  pub page-read : (q : ℕ) → k ≡ Page q → PageRead s q
+  pub page-read : (q : ℕ) → k ≡ Ok (Page q) → PageRead s q
   page-read q e = by (seen s)
     where
       by : Seen s → PageRead s q
@@ -140,7 +143,7 @@ module _ (s : List ℕ) {k : Record} (h : record_in (lines s) ≡ k) where
               let low = below (held g) 5 g.whole.bytes in
               record { fits = d.1; small = omega arith; reads = λ p. passed-read g p ∙ rw (t, d.0, same) refl }
 
-  pub data_read : (a n : ℕ) → k ≡ Data a n → DataRead s a n
+  pub data_read : (a n : ℕ) → k ≡ Ok (Data a n) → DataRead s a n
   data_read a n e = by (seen s)
     where
       by : Seen s → DataRead s a n

@@ -18,23 +18,26 @@ use Rattle.hexread.specs.Answers.{bytes_as, good_as, record_in}
 use Rattle.hexread.specs.Premises.{Counted}
 use Rattle.hexread.specs.Values.{pair_of, word_of}
 use Rattle.hexread.specs.declared.record.Record.{Record}
-use Rattle.hexread.specs.declared.record.Record.TheVariants.{Data, End, Malformed, Page, WrongSum}
+use Rattle.std.specs.Prelude.{Result, Ok, Err}
+use Rattle.hexread.specs.declared.record.Fault.{Fault}
+use Rattle.hexread.specs.declared.record.Fault.TheVariants.{Malformed, WrongSum}
+use Rattle.hexread.specs.declared.record.Record.TheVariants.{Data, End, Page}
 use Rattle.hexread.proofs.RecordLaws.{field_at, none_made}
 use Rattle.hexread.proofs.ValueLaws.{pair-byte, pair_small}
 
 -- ---- by its verdict
 
-pub malformed_in : (ls : List (List ℕ)) → first ls ≡ 12 → record_in ls ≡ Malformed
+pub malformed_in : (ls : List (List ℕ)) → first ls ≡ 12 → record_in ls ≡ Err Malformed
 unfolding record_in
 malformed_in [] e = refl
 malformed_in (l ∷ ls) e = rw e
 
-pub wrong_in : (ls : List (List ℕ)) → first ls ≡ 13 → record_in ls ≡ WrongSum
+pub wrong_in : (ls : List (List ℕ)) → first ls ≡ 13 → record_in ls ≡ Err WrongSum
 unfolding record_in
 wrong_in [] e = absurd (omega arith)
 wrong_in (l ∷ ls) e = rw e
 
-pub passed_in : {s : List ℕ} (g : Passed s) → record_in (lines s) ≡ good_as (type (held g)) (address (held g)) (count (held g)) (page_of (held g))
+pub passed_in : {s : List ℕ} (g : Passed s) → record_in (lines s) ≡ Ok (good_as (type (held g)) (address (held g)) (count (held g)) (page_of (held g)))
 unfolding record_in
 passed_in g = rw (g.split, verdict-lines (58 ∷ g.cs) g.rest, g.sound)
 
@@ -71,10 +74,10 @@ formed_good s f =
       bytes = rw (a, b, t) f.bytes;
     })
 
-good_or : (s : List ℕ) → Good s ⊎ (Malformed ≡ record_in (lines s))
+good_or : (s : List ℕ) → Good s ⊎ (Err Malformed ≡ record_in (lines s))
 good_or s = by (seen s)
   where
-    by : Seen s → Good s ⊎ (Malformed ≡ record_in (lines s))
+    by : Seen s → Good s ⊎ (Err Malformed ≡ record_in (lines s))
     by (bad e) = inr (sym (malformed_in (lines s) e))
     by (wrong e f) = inl (formed_good s f)
     by (passed g) = inl (formed_good s (passed-formed g))
@@ -120,26 +123,26 @@ whole_part (x ∷ s) c m e b n i f k = go (no_byte (bytes_of (take m s))) refl
 
 -- ---- each way out of the code
 
-pub in_short : (s : List ℕ) → length s < 12 → Malformed ≡ record_in (lines s)
+pub in_short : (s : List ℕ) → length s < 12 → Err Malformed ≡ record_in (lines s)
 in_short s h = ⊎_elim (λ g. absurd (omega (arith, g.long))) (λ r. r) (good_or s)
 
-pub in_colon : (s : List ℕ) → get_or s 0 0 ≢ 58 → Malformed ≡ record_in (lines s)
+pub in_colon : (s : List ℕ) → get_or s 0 0 ≢ 58 → Err Malformed ≡ record_in (lines s)
 in_colon s h = ⊎_elim (λ g. absurd (h g.colon)) (λ r. r) (good_or s)
 
-pub in_count : (s : List ℕ) {v : ℕ} → v ≡ pair_of s 1 → 255 < v → Malformed ≡ record_in (lines s)
+pub in_count : (s : List ℕ) {v : ℕ} → v ≡ pair_of s 1 → 255 < v → Err Malformed ≡ record_in (lines s)
 in_count s e h = ⊎_elim (λ g. absurd (let p = pair-byte (get_or s 1 0) (get_or s 2 0) g.small in omega (arith, g.small))) (λ r. r) (good_or s)
 
 module _ (s : List ℕ) {v : ℕ} (q : v ≡ pair_of s 1) (b : v ≤ 255) where
   same_count : v ≡ counted s
   same_count = q ∙ pair_small (get_or s 1 0) (get_or s 2 0) (omega arith)
 
-  pub in_cut : length s ≤ 2 * v + 11 → Malformed ≡ record_in (lines s)
+  pub in_cut : length s ≤ 2 * v + 11 → Err Malformed ≡ record_in (lines s)
   in_cut h = let e = same_count in ⊎_elim (λ g. absurd (omega (arith, g.long))) (λ r. r) (good_or s)
 
-  pub in_feed : get_or s (2 * v + 11) 0 ≢ 10 → Malformed ≡ record_in (lines s)
+  pub in_feed : get_or s (2 * v + 11) 0 ≢ 10 → Err Malformed ≡ record_in (lines s)
   in_feed h = ⊎_elim (λ g. absurd (h (rw same_count g.feed))) (λ r. r) (good_or s)
 
-  pub in_whole : {r : Record} → 2 * v + 11 < length s → get_or s 0 0 ≡ 58 → get_or s (2 * v + 11) 0 ≡ 10 → r ≡ bytes_as (bytes_of (take (2 * v + 11 - 1) (drop 1 s))) → r ≡ record_in (lines s)
+  pub in_whole : {r : Result Record Fault} → 2 * v + 11 < length s → get_or s 0 0 ≡ 58 → get_or s (2 * v + 11) 0 ≡ 10 → r ≡ bytes_as (bytes_of (take (2 * v + 11 - 1) (drop 1 s))) → r ≡ record_in (lines s)
   in_whole n i f e = e ∙ whole_part s v (2 * v + 11 - 1) same_count (omega arith) n i f (omega arith)
 
   pub part-asked : 2 * v + 11 < length s → Counted (take (2 * v + 11 - 1) (drop 1 s)) v
@@ -182,7 +185,7 @@ module _ (s : List ℕ) {k : ℕ} (h : first (lines s) ≡ 0) (e : k ≡ pair_of
   kind_is : k ≡ type (held (known s h))
   kind_is = e ∙ known-pair 3 (known s h) (omega arith)
 
-  pub known_data : {a c : ℕ} → k ≡ 0 → a ≡ word_of s 3 → c ≡ pair_of s 1 → Data a c ≡ record_in (lines s)
+  pub known_data : {a c : ℕ} → k ≡ 0 → a ≡ word_of s 3 → c ≡ pair_of s 1 → Ok (Data a c) ≡ record_in (lines s)
   known_data {a} {c} z p q =
       let g = known s h in
       let x = p ∙ known-word 1 g (omega arith) in
@@ -190,7 +193,7 @@ module _ (s : List ℕ) {k : ℕ} (h : first (lines s) ≡ 0) (e : k ≡ pair_of
       let t : type (held g) ≡ 0 = sym kind_is ∙ z in
       rw (n, x) (sym (rw t at (passed_in g)))
 
-  pub known-end : k ≡ 1 → End ≡ record_in (lines s)
+  pub known-end : k ≡ 1 → Ok End ≡ record_in (lines s)
   known-end z = let t : type (held (known s h)) ≡ 1 = sym kind_is ∙ z in sym (rw t at (passed_in (known s h)))
 
   turned : k ≢ 0 → k ≢ 1 → (type (held (known s h)) ≡ 4) × (count (held (known s h)) ≡ 2)
@@ -204,7 +207,7 @@ module _ (s : List ℕ) {k : ℕ} (h : first (lines s) ≡ 0) (e : k ≡ pair_of
   pub known-long : k ≢ 0 → k ≢ 1 → 16 ≤ length s
   known-long i j = let t = turned i j in omega (arith, (passed-long (known s h)).1)
 
-  pub known-page : {a : ℕ} → k ≢ 0 → k ≢ 1 → a ≡ word_of s 9 → Page a ≡ record_in (lines s)
+  pub known-page : {a : ℕ} → k ≢ 0 → k ≢ 1 → a ≡ word_of s 9 → Ok (Page a) ≡ record_in (lines s)
   known-page i j p =
       let g = known s h in
       let t = turned i j in

@@ -1,7 +1,7 @@
 -- What the characters of a record make it.
 -- Assumes nothing.
 use mathlib.Core.Path.{◌≡◌, refl, sym, ◌∙◌}
-use mathlib.Core.Logic.{◌≢◌}
+use mathlib.Core.Logic.{◌≢◌, ◌⊎◌, inl, inr}
 use mathlib.Core.Bool.{Bool, true, false, not, ◌||◌}
 use mathlib.Core.List.{List}
 use Prim.Native.Nat.{ℕ, zero, suc, ◌+◌, ◌*◌, ◌%◌, ◌≤◌, ◌<◌}
@@ -17,7 +17,10 @@ use Rattle.hexread.specs.Answers.{bytes_as, record_as}
 use Rattle.hexread.specs.Premises.{Counted, Ruled, Summed}
 use Rattle.hexread.specs.Values.{pair_of, word_of}
 use Rattle.hexread.specs.declared.record.Record.{Record}
-use Rattle.hexread.specs.declared.record.Record.TheVariants.{Data, End, Malformed, Page, WrongSum}
+use Rattle.std.specs.Prelude.{Result, Ok, Err}
+use Rattle.hexread.specs.declared.record.Fault.{Fault}
+use Rattle.hexread.specs.declared.record.Fault.TheVariants.{Malformed, WrongSum}
+use Rattle.hexread.specs.declared.record.Record.TheVariants.{Data, End, Page}
 use Rattle.hexread.proofs.ValueLaws.{pair-byte, sums_good, sums_small}
 
 -- ---- the faults of a type
@@ -84,7 +87,7 @@ page-size t a n e h i j = by (kind_of t a n (sym e ∙ h))
 
 -- ---- a record by its fields
 
-page_of_lem : (t a n p : ℕ) → t ≢ 0 → t ≢ 1 → Page p ≡ record_as 0 t a n p
+page_of_lem : (t a n p : ℕ) → t ≢ 0 → t ≢ 1 → Ok (Page p) ≡ record_as 0 t a n p
 page_of_lem zero a n p i j = absurd (i refl)
 page_of_lem (suc zero) a n p i j = absurd (j refl)
 page_of_lem (suc (suc t)) a n p i j = refl
@@ -100,7 +103,7 @@ module _ {cs : List ℕ} {size total a k : ℕ} (r : Ruled cs size total) (ek : 
   address_small = address-field.1
 
   -- its answer, by what the code knows
-  by_fields : {x : Record} → x ≡ record_as (verdict_of (some (faults_of k a size)) (not (eqb (total % 256) 0))) k a size (page_of (bytes_of cs)) → x ≡ bytes_as (bytes_of cs)
+  by_fields : {x : Result Record Fault} → x ≡ record_as (verdict_of (some (faults_of k a size)) (not (eqb (total % 256) 0))) k a size (page_of (bytes_of cs)) → x ≡ bytes_as (bytes_of cs)
   unfolding bytes_as
   by_fields h =
       let f = address-field.0 in
@@ -108,19 +111,19 @@ module _ {cs : List ℕ} {size total a k : ℕ} (r : Ruled cs size total) (ek : 
       let t = r.sums in
       rw (all_bytes (bytes_of cs) r.bytes, ← kind_field, ← f, ← s, ← t) h
 
-  pub ruled-malformed : {b : Bool} → b ≡ some (faults_of k a size) → b ≡ true → Malformed ≡ bytes_as (bytes_of cs)
+  pub ruled-malformed : {b : Bool} → b ≡ some (faults_of k a size) → b ≡ true → Err Malformed ≡ bytes_as (bytes_of cs)
   ruled-malformed e h = by_fields (rw (← e, h))
 
-  pub ruled-sum : {b : Bool} → b ≡ some (faults_of k a size) → b ≡ false → total % 256 ≢ 0 → WrongSum ≡ bytes_as (bytes_of cs)
+  pub ruled-sum : {b : Bool} → b ≡ some (faults_of k a size) → b ≡ false → total % 256 ≢ 0 → Err WrongSum ≡ bytes_as (bytes_of cs)
   ruled-sum e h i = by_fields (rw (← e, h, ne_eqb (total % 256) 0 i))
 
-  pub ruled_data : {b : Bool} → b ≡ some (faults_of k a size) → b ≡ false → total % 256 ≡ 0 → k ≡ 0 → Data a size ≡ bytes_as (bytes_of cs)
+  pub ruled_data : {b : Bool} → b ≡ some (faults_of k a size) → b ≡ false → total % 256 ≡ 0 → k ≡ 0 → Ok (Data a size) ≡ bytes_as (bytes_of cs)
   ruled_data e h i j = by_fields (rw (← e, h, i, j))
 
-  pub ruled-end : {b : Bool} → b ≡ some (faults_of k a size) → b ≡ false → total % 256 ≡ 0 → k ≡ 1 → End ≡ bytes_as (bytes_of cs)
+  pub ruled-end : {b : Bool} → b ≡ some (faults_of k a size) → b ≡ false → total % 256 ≡ 0 → k ≡ 1 → Ok End ≡ bytes_as (bytes_of cs)
   ruled-end e h i j = by_fields (rw (← e, h, i, j))
 
-  pub ruled-page : {b : Bool} {p : ℕ} → b ≡ some (faults_of k a size) → b ≡ false → total % 256 ≡ 0 → k ≢ 0 → k ≢ 1 → p ≡ word_of cs 8 → Page p ≡ bytes_as (bytes_of cs)
+  pub ruled-page : {b : Bool} {p : ℕ} → b ≡ some (faults_of k a size) → b ≡ false → total % 256 ≡ 0 → k ≢ 0 → k ≢ 1 → p ≡ word_of cs 8 → Ok (Page p) ≡ bytes_as (bytes_of cs)
   ruled-page e h i j l m =
       let z = page-size k a size e h j l in
       let same = m ∙ (word_at 4 cs r.bytes (omega (arith, r.counted.long))).0 in
@@ -130,11 +133,11 @@ pub ruleset ruled-cases = (ruled-malformed, ruled-sum, ruled_data, ruled-end, ru
 
 -- ---- a record by its characters
 
-pub none_made : (cs : List ℕ) → (AllBytes (bytes_of cs) → ⊥) → Malformed ≡ bytes_as (bytes_of cs)
+pub none_made : (cs : List ℕ) → (AllBytes (bytes_of cs) → ⊥) → Err Malformed ≡ bytes_as (bytes_of cs)
 unfolding bytes_as
 none_made cs h = by (no_byte (bytes_of cs)) refl
   where
-    by : (b : Bool) → no_byte (bytes_of cs) ≡ b → Malformed ≡ bytes_as (bytes_of cs)
+    by : (b : Bool) → no_byte (bytes_of cs) ≡ b → Err Malformed ≡ bytes_as (bytes_of cs)
     by true e = rw e
     by false e = absurd (h (bytes_all (bytes_of cs) e))
 
@@ -150,11 +153,9 @@ module _ {cs : List ℕ} {size high low : ℕ} (c : Counted cs size) (s : Summed
       let g = s.second in
       (omega (arith, m.0), omega (arith, m.1))
 
-  pub of_high : 4095 < high → Malformed ≡ bytes_as (bytes_of cs)
-  of_high h = none_made cs (λ b. omega (arith, (most b).0))
-
-  pub of_low : 4095 < low → Malformed ≡ bytes_as (bytes_of cs)
-  of_low h = none_made cs (λ b. omega (arith, (most b).1))
+  pub of-large : (4095 < high) ⊎ ((high ≤ 4095) × (4095 < low)) → Err Malformed ≡ bytes_as (bytes_of cs)
+  of-large (inl h) = none_made cs (λ b. omega (arith, (most b).0))
+  of-large (inr h) = none_made cs (λ b. omega (arith, (most b).1, h.1))
 
   pub ruled-asked : high ≤ 4095 → low ≤ 4095 → Ruled cs size (16 * high + low)
   ruled-asked h k =
@@ -164,5 +165,3 @@ module _ {cs : List ℕ} {size high low : ℕ} (c : Counted cs size) (s : Summed
       let r = sums_good cs (size + 5) (omega arith) (omega arith) (omega arith) in
       let t = r.1 in
       record { counted = c; bytes = r.0; sums = omega arith }
-
-pub ruleset of-cases = (of_high, of_low)

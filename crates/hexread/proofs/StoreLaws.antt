@@ -4,12 +4,12 @@ use mathlib.Core.Path.{◌≡◌, refl, sym, ◌∙◌, ap}
 use mathlib.Core.Logic.{◌≢◌}
 use mathlib.Core.Bool.{Bool, true, false, cond}
 use mathlib.Core.List.{List, [], ◌∷◌, ◌++◌, append_assoc}
-use Prim.Native.Nat.{ℕ, ◌+◌, ◌*◌, ◌-◌, ◌%◌, ◌≤◌, ◌<◌, max}
+use Prim.Native.Nat.{ℕ, ◌+◌, ◌*◌, ◌-◌, ◌≤◌, ◌<◌, max}
 use native.Mathlib.Nat.{add-sub_cancel_left}
 use native.Mathlib.Numerals.{add-one}
 use native.Mathlib.Omega.{arith}
 use lib.Dec.{eqb}
-use lib.ListN.{drop, drop_of_length-le, get_or, length, length-drop, length-set, length-take, set, take}
+use lib.ListN.{drop, get_or, length, length-drop, length-set, length-take, set, take}
 use lib.Seq.{drop-drop, length-sets, sets-eq, take_all, take-suc, take-suc-set}
 use borrow.Author.Tests.{eqb-true, ne_eqb}
 use Rattle.bits.specs.Bytes.{AllBytes}
@@ -17,56 +17,54 @@ use borrow.Rule.Slice.PartMut.{put_mid}
 use Rattle.hexread.specs.Answers.{applied, Fits, judged_as, record_in}
 use Rattle.hexfile.specs.Record.{bytes_of}
 use Rattle.hexfile.specs.Text.{after, apply, ending, farthest, first, lines, loads, piece_at, read, refused, Said, said}
+use Rattle.std.specs.Prelude.{Result, Ok}
+use Rattle.hexread.specs.declared.record.Fault.{Fault}
 use Rattle.hexread.specs.declared.record.Record.{Record}
-use Rattle.hexread.specs.declared.record.Record.TheVariants.{Data, End, Malformed, Page, WrongSum}
-use Rattle.hexread.specs.declared.text.Judged.{Judged}
-use Rattle.hexread.specs.declared.text.Judged.TheVariants as judged
+use Rattle.hexread.specs.declared.record.Record.TheVariants.{Data, End, Page}
 use Rattle.hexread.specs.Premises.{chars_at, Placed}
 use Rattle.hexread.specs.Values.{pair_of}
 use Rattle.hexfile.proofs.LineLaws.{below, even}
 use Rattle.hexfile.proofs.ReadLaws.{bad, passed, passed_first, passed-long, refused-read, Seen, seen, wrong}
 use Rattle.hexread.proofs.JudgeLaws.{part, part-whole}
-use Rattle.hexread.proofs.KindLaws.{bad-read, data_in, data_read, end_read, page-read, piece_in, read_none, wrong-read}
+use Rattle.hexread.proofs.KindLaws.{data_in, data_read, end_read, page-read, piece_in}
 use Rattle.hexread.proofs.RecordLaws.{field_at}
 
 -- ---- bytes
 
 -- the first i bytes are stored
 pub record Copied (to₀ cs to : List ℕ) (i : ℕ) : Type 0 where
-  pub pairs : length cs ≡ 2 * length to₀
-  pub clean : AllBytes (bytes_of cs)
   pub within : i ≤ length to
   pub same : length to ≡ length to₀
   pub done : take i to ≡ take i (bytes_of cs)
 
-pub copy_start : (to cs : List ℕ) → length cs ≡ 2 * length to → AllBytes (bytes_of cs) → Copied to cs to 0
-copy_start to cs h k = record { pairs = h; clean = k; within = omega arith; same = refl; done = refl }
+pub copy_start : (to cs : List ℕ) → Copied to cs to 0
+copy_start to cs = record { within = omega arith; same = refl; done = refl }
 
-pub copy_more : {to₀ cs to : List ℕ} {i v w : ℕ} → Copied to₀ cs to i → i < length to → v ≡ pair_of cs (2 * i) → w ≡ v % 256
-    → Copied to₀ cs (set to i w) (i + 1)
-copy_more {to₀} {cs} {to} {i} {v} {w} c h e m =
-    let p = c.pairs in
-    let s = c.same in
-    let len = even cs c.clean in
-    let f = field_at i cs c.clean (omega arith) e in
-    let b = below (bytes_of cs) i c.clean in
-    let q : w ≡ get_or (bytes_of cs) i 0 = omega arith in
-    record {
-      pairs = p;
-      clean = c.clean;
-      within = simp length-set (omega arith);
-      same = simp length-set s;
-      done = rw (add-one i, take-suc-set to i w h, take-suc (bytes_of cs) i 0 (omega arith), c.done, q);
-    }
+-- the next pair is a byte
+module _ (to₀ cs : List ℕ) (i : ℕ) (p : length cs ≡ 2 * length to₀) (a : AllBytes (bytes_of cs)) where
+  -- the next pair is a byte
+  pub copy-small : {v : ℕ} → i < length to₀ → v ≡ pair_of cs (2 * i) → v < 256
+  copy-small {v} h e =
+      let f = field_at i cs a (omega arith) e in
+      let b = below (bytes_of cs) i a in
+      omega arith
 
-pub copy_done : {to₀ cs to : List ℕ} {i : ℕ} → Copied to₀ cs to i → length to ≤ i → to ≡ bytes_of cs
-copy_done {to₀} {cs} {to} {i} c h =
-    let p = c.pairs in
-    let s = c.same in
-    let len = even cs c.clean in
-    sym (take_all i to h) ∙ c.done ∙ take_all i (bytes_of cs) (omega arith)
+  pub copy_more : {to : List ℕ} {v : ℕ} → Copied to₀ cs to i → i < length to₀ → v ≡ pair_of cs (2 * i) → Copied to₀ cs (set to i v) (i + 1)
+  copy_more {to} {v} c h e =
+      let s = c.same in
+      let len = even cs a in
+      let q : v ≡ get_or (bytes_of cs) i 0 = field_at i cs a (omega arith) e in
+      record {
+        within = simp length-set (omega arith);
+        same = simp length-set s;
+        done = rw (add-one i, take-suc-set to i v (omega arith), take-suc (bytes_of cs) i 0 (omega arith), c.done, q);
+      }
 
-pub ruleset copy-cases = (copy_start, copy_more, copy_done)
+  pub copy_done : {to : List ℕ} → Copied to₀ cs to i → length to₀ ≤ i → to ≡ bytes_of cs
+  copy_done {to} c h =
+      let s = c.same in
+      let len = even cs a in
+      sym (take_all i to (omega arith)) ∙ c.done ∙ take_all i (bytes_of cs) (omega arith)
 
 -- ---- a piece
 
@@ -117,33 +115,30 @@ applied-ending ([] ∷ []) segment = refl
 applied-ending ((c ∷ cs) ∷ ls) segment = refl
 applied-ending ([] ∷ l ∷ ls) segment = refl
 
--- ---- the text from a place on
+-- ---- what is left of the text
 
-pub record Storing (text segment₀ segment : List ℕ) (at page : ℕ) : Type 0 where
-  pub within : at ≤ length text
+-- the rest is still to be stored
+pub record Storing (text segment₀ rest segment : List ℕ) (page : ℕ) : Type 0 where
   pub small : page < 65536
   pub same : length segment ≡ length segment₀
-  pub fits : Fits (read page (lines (drop at text))) (length segment)
-  pub rest : applied (read page (lines (drop at text))) segment ≡ applied (said text) segment₀
+  pub fits : Fits (read page (lines rest)) (length segment)
+  pub left : applied (read page (lines rest)) segment ≡ applied (said text) segment₀
 
-pub store-start : (text segment : List ℕ) → Fits (said text) (length segment) → Storing text segment segment 0 0
+pub store-start : (text segment : List ℕ) → Fits (said text) (length segment) → Storing text segment text segment 0
 unfolding said
-store-start text segment h = record { within = omega arith; small = omega arith; same = refl; fits = h; rest = refl }
+store-start text segment h = record { small = omega arith; same = refl; fits = h; left = refl }
 
 -- the next record has no fault
-pub known-asked : {text segment₀ segment : List ℕ} {at page : ℕ} → Storing text segment₀ segment at page → (first (lines (part text at)) ≡ 0) × (12 ≤ length (part text at))
-known-asked {text} {segment₀} {segment} {at} {page} j = rw (part-whole text at) (by (seen (drop at text)))
+pub known-asked : {text segment₀ rest segment : List ℕ} {page : ℕ} → Storing text segment₀ rest segment page → (first (lines rest) ≡ 0) × (12 ≤ length rest)
+known-asked {text} {segment₀} {rest} {segment} {page} j = by (seen rest)
   where
-    never : (n : ℕ) → read page (lines (drop at text)) ≡ refused n → ⊥
+    never : (n : ℕ) → read page (lines rest) ≡ refused n → ⊥
     never n e = rw e at j.fits
 
-    by : Seen (drop at text) → (first (lines (drop at text)) ≡ 0) × (12 ≤ length (drop at text))
-    by (bad i) = absurd (never 12 (refused-read (lines (drop at text)) 11 page i))
-    by (wrong i f) = absurd (never 13 (refused-read (lines (drop at text)) 12 page i))
+    by : Seen rest → (first (lines rest) ≡ 0) × (12 ≤ length rest)
+    by (bad i) = absurd (never 12 (refused-read (lines rest) 11 page i))
+    by (wrong i f) = absurd (never 13 (refused-read (lines rest) 12 page i))
     by (passed g) = (passed_first g, omega (arith, (passed-long g).1))
-
-chars_data : (text : List ℕ) (at n : ℕ) → chars_at text at n ≡ take (2 * n) (drop 9 (drop at text))
-chars_data text at n = rw (drop-drop 9 at text)
 
 -- the part that the code lends
 pub chars_part : (text : List ℕ) (at n : ℕ) → take (at + 9 + 2 * n - (at + 9)) (drop (at + 9) text) ≡ chars_at text at n
@@ -159,73 +154,56 @@ pub data_stored : (text xs : List ℕ) (at start n : ℕ) {ys : List ℕ} → ys
     → (at + 9 + 2 * n + 3 ≡ at + (12 + 2 * n)) × (ys ≡ apply (piece_at start n (bytes_of (chars_at text at n))) xs)
 data_stored text xs at start n e = (omega arith, rw (chars_part text at n) at e)
 
-module _ {text segment₀ segment : List ℕ} {at page : ℕ} {r : Record} (j : Storing text segment₀ segment at page) (e : r ≡ record_in (lines (part text at))) where
-  kind : record_in (lines (drop at text)) ≡ r
-  kind = sym (e ∙ ap (λ t. record_in (lines t)) (part-whole text at))
-
-  pub store-bad : r ≡ Malformed → segment ≡ applied (said text) segment₀
-  store-bad h = rw (bad-read (drop at text) kind h page) at j.rest
-
-  pub store-wrong : r ≡ WrongSum → segment ≡ applied (said text) segment₀
-  store-wrong h = rw (wrong-read (drop at text) kind h page) at j.rest
+module _ {text segment₀ rest segment : List ℕ} {page : ℕ} {r : Record} (j : Storing text segment₀ rest segment page) (e : Ok r ≡ record_in (lines rest)) where
+  kind : {k : Record} → r ≡ k → record_in (lines rest) ≡ Ok k
+  kind h = sym e ∙ ap Ok h
 
   pub store-ended : r ≡ End → segment ≡ applied (said text) segment₀
-  store-ended h = rw ((end_read (drop at text) kind h).reads page, applied-ending) at j.rest
+  store-ended h = rw ((end_read rest (kind h) refl).reads page, applied-ending) at j.left
 
-  pub to_page : (q : ℕ) → r ≡ Page q → at + 16 ≤ length text
-  to_page q h = let d = page-read (drop at text) kind q h in let l = length-drop at text in omega (arith, d.fits, j.within)
+  pub to_page : {q : ℕ} → r ≡ Page q → 16 ≤ length rest
+  to_page {q} h = (page-read rest (kind h) q refl).fits
 
-  pub store-page : (q : ℕ) → r ≡ Page q → Storing text segment₀ segment (at + 16) q
-  store-page q h =
-      let d = page-read (drop at text) kind q h in
+  pub store-page : {q : ℕ} → r ≡ Page q → Storing text segment₀ (part rest 16) segment q
+  store-page {q} h =
+      let d = page-read rest (kind h) q refl in
       record {
-        within = to_page q h;
         small = d.small;
         same = j.same;
-        fits = rw (d.reads page, drop-drop 16 at text) at j.fits;
-        rest = rw (d.reads page, drop-drop 16 at text) at j.rest;
+        fits = rw (part-whole rest 16) (rw (d.reads page) at j.fits);
+        left = rw (part-whole rest 16) (rw (d.reads page) at j.left);
       }
-
-  pub to_data : (a n : ℕ) → r ≡ Data a n → (at + (12 + 2 * n) ≤ length text) × (a + n ≤ 65536)
-  to_data a n h = let d = data_read (drop at text) kind a n h in let l = length-drop at text in (omega (arith, d.fits, j.within), d.page)
 
   parts : (a n : ℕ) → r ≡ Data a n
-      → Fits (read page (lines (drop (12 + 2 * n) (drop at text)))) (length segment) × (0 < n → 65536 * page + a + n ≤ length segment)
+      → Fits (read page (lines (drop (12 + 2 * n) rest))) (length segment) × (0 < n → 65536 * page + a + n ≤ length segment)
   parts a n h =
-      let d = data_read (drop at text) kind a n h in
-      fits_after (65536 * page + a) n (length segment) (data_in (drop at text) n) (read page (lines (drop (12 + 2 * n) (drop at text)))) d.long (rw (d.reads page) at j.fits)
+      let d = data_read rest (kind h) a n refl in
+      fits_after (65536 * page + a) n (length segment) (data_in rest n) (read page (lines (drop (12 + 2 * n) rest))) d.long (rw (d.reads page) at j.fits)
 
-  pub data_asked : (a n : ℕ) → r ≡ Data a n → Placed text (length segment) at page a n
-  data_asked a n h =
-      let d = data_read (drop at text) kind a n h in
-      let f = to_data a n h in
-      record { within = f.0; page_small = j.small; address_small = f.1; bytes = rw (chars_data text at n) d.bytes; room = (parts a n h).1 }
+  pub data_asked : {a n : ℕ} → r ≡ Data a n → Placed rest (length segment) 0 page a n
+  data_asked {a} {n} h =
+      let d = data_read rest (kind h) a n refl in
+      record { within = omega (arith, d.fits); page_small = j.small; address_small = d.page; bytes = d.bytes; room = (parts a n h).1 }
 
-  pub store_data : (a n next : ℕ) (ys : List ℕ) → r ≡ Data a n → next ≡ at + (12 + 2 * n) → ys ≡ apply (piece_at (65536 * page + a) n (bytes_of (chars_at text at n))) segment
-      → Storing text segment₀ ys next page
-  store_data a n next ys h m i =
-      let d = data_read (drop at text) kind a n h in
-      let k : ys ≡ apply (piece_in (drop at text) page a n) segment = rw (chars_data text at n) at i in
-      let l : length ys ≡ length segment = ap length k ∙ apply-long (65536 * page + a) n (data_in (drop at text) n) segment in
+  pub store_data : {a n next : ℕ} {ys : List ℕ} → r ≡ Data a n → next ≡ 12 + 2 * n → ys ≡ apply (piece_at (65536 * page + a) n (bytes_of (chars_at rest 0 n))) segment
+      → Storing text segment₀ (part rest next) ys page
+  store_data {a} {n} {next} {ys} h m i =
+      let d = data_read rest (kind h) a n refl in
+      let k : ys ≡ apply (piece_in rest page a n) segment = i in
+      let l : length ys ≡ length segment = ap length k ∙ apply-long (65536 * page + a) n (data_in rest n) segment in
       let t = rw (d.reads page) at j.fits in
       record {
-        within = rw m (to_data a n h).0;
         small = j.small;
         same = l ∙ j.same;
-        fits = rw (m, l, ← drop-drop (12 + 2 * n) at text) (parts a n h).0;
-        rest = rw (m, k, ← drop-drop (12 + 2 * n) at text) (sym (applied_after (65536 * page + a) n (length segment) (data_in (drop at text) n) (read page (lines (drop (12 + 2 * n) (drop at text)))) segment t) ∙ (rw (d.reads page) at j.rest));
+        fits = rw (m, l, part-whole rest (12 + 2 * n)) (parts a n h).0;
+        left = rw (m, k, part-whole rest (12 + 2 * n)) (sym (applied_after (65536 * page + a) n (length segment) (data_in rest n) (read page (lines (drop (12 + 2 * n) rest))) segment t) ∙ (rw (d.reads page) at j.left));
       }
 
-pub store_done : {text segment₀ segment : List ℕ} {at page : ℕ} → Storing text segment₀ segment at page → length text ≤ at → segment ≡ applied (said text) segment₀
-store_done {text} {segment₀} {segment} {at} {page} j h =
-    let none : drop at text ≡ [] = drop_of_length-le text {i = at} h in
-    rw (none, read_none page) at j.rest
-
-pub ruleset store-cases = (store-start, store-bad, store-wrong, store-ended, store-page, store_data, store_done)
+pub ruleset store-cases = (store-start, store-ended, store-page, store_data)
 
 -- ---- a text that was judged may be stored
 
-pub judged_fits : (x : Said) (end n : ℕ) {j : Judged} → j ≡ judged_as 0 x → j ≡ judged.Loads end → end ≤ n → Fits x n
+pub judged_fits : (x : Said) (end n : ℕ) {j : Result ℕ Fault} → j ≡ judged_as 0 x → j ≡ Ok end → end ≤ n → Fits x n
 judged_fits (refused k) end n p q h = by (eqb k 12) refl
   where
     by : (b : Bool) → eqb k 12 ≡ b → ⊥

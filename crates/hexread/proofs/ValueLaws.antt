@@ -13,17 +13,14 @@ use Rattle.bits.specs.Bytes.{AllBytes}
 use Rattle.hexfile.specs.Record.{byte, bytes_of, digit, sum}
 use Rattle.hexfile.proofs.DigitLaws.{byte-digits}
 use Rattle.hexread.specs.Premises.{Summed}
+use Rattle.hexread.specs.declared.digits.TheConstants.{VALUES}
 use Rattle.hexread.specs.Values.{highs, lows, value_of, values, values_from}
 
 -- ---- the table
 
-from_long : (c n : ℕ) → length (values_from c n) ≡ n
-from_long c zero = refl
-from_long c (suc n) = ap suc (from_long (suc c) n)
-
-pub table-long : {xs : List ℕ} → xs ≡ values → length xs ≡ 256
-unfolding values
-table-long e = ap length e ∙ from_long 0 256
+table-told : VALUES ≡ values
+unfolding values value_of digit
+table-told = refl
 
 from_at : (c n k : ℕ) → k < n → get_or (values_from c n) k 0 ≡ value_of (c + k)
 from_at c zero k h = absurd (omega arith)
@@ -38,11 +35,12 @@ value-most c = by (ltb (digit c) 16) refl
     by true e = let h = ltb-true (digit c) 16 e in omega arith
     by false e = omega arith
 
-pub value-told : (xs : List ℕ) (c : ℕ) {r : ℕ} → xs ≡ values → c < 256 → r ≡ get_or xs c 0 → (r ≡ value_of c) × (r ≤ 4096)
+-- a character's value in it
+pub value-told : (c : ℕ) {r : ℕ} → c < 256 → r ≡ get_or VALUES c 0 → (r ≡ value_of c) × (r ≤ 4096)
 unfolding values
-value-told xs c {r} e h q =
+value-told c {r} h q =
     let z : 0 + c ≡ c = omega arith in
-    let v : r ≡ value_of c = q ∙ ap (λ l. get_or l c 0) e ∙ from_at 0 256 c h ∙ ap value_of z in
+    let v : r ≡ value_of c = q ∙ ap (λ l. get_or l c 0) table-told ∙ from_at 0 256 c h ∙ ap value_of z in
     let m = value-most c in
     (v, omega arith)
 

@@ -1,8 +1,7 @@
 -- Digits and records, stored one after the other.
 -- Assumes nothing.
-use Rattle.std.proofs.Common.{◌≡◌, ℕ, suc, ◌+◌, ◌-◌, ◌*◌, ◌/◌, ◌%◌, ◌<◌, ◌≤◌, min, Bool, true, false, leb, ◌⊎◌, List, [], ◌∷◌, ◌++◌, length, get_or, take, drop, set, sym, refl, ap, ◌∙◌, inl, inr, append_assoc, append-nil, add-zero, add-one, arith, length-append, length-drop, length-set, drop_of_length-le, length-take, take_all, drop-cons, take-suc, drop-drop, le-ltb, lt-ltb, leb-false, leb-true}
-use native.Mathlib.Nat.{add-sub_cancel_left}
-use lib.Seq.{sets}
+use Rattle.std.proofs.Common.{◌≡◌, ℕ, suc, ◌+◌, ◌-◌, ◌*◌, ◌/◌, ◌%◌, ◌<◌, ◌≤◌, min, List, [], ◌∷◌, ◌++◌, length, get_or, take, drop, set, sym, refl, ap, ◌∙◌, append_assoc, append-nil, add-zero, add-one, arith, length-append, length-set, drop_of_length-le, length-take, take_all, drop-cons, take-suc, le-ltb, lt-ltb}
+use lib.Seq.{drop_at, sets, take_at}
 use Rattle.hexfile.specs.Record.{sum}
 use Rattle.hexfile.specs.Written.{capital, checksum, data_records, digits, fields, line_of, many, record_of, written}
 use Rattle.hexwrite.specs.Laid.{Laid}
@@ -97,14 +96,9 @@ pub ruleset total-cases = (total-start, total_more, total_done)
 abbrev pub head : ℕ → ℕ → ℕ → List ℕ
 head t a n = 58 ∷ digits (n ∷ a / 256 ∷ a % 256 ∷ t ∷ [])
 
-pub head-put : (t w n : ℕ) {xs a b c d e : List ℕ} {at : ℕ} → Laid xs a at (58 ∷ []) → Laid a b (at + 1) (digits (n % 256 ∷ [])) → Laid b c (at + 3) (digits (w / 256 % 256 ∷ []))
-    → Laid c d (at + 5) (digits (w % 256 ∷ [])) → Laid d e (at + 7) (digits (t ∷ [])) → w < 65536 → n < 256 → Laid xs e at (head t w n)
-head-put t w n {xs} {a} {b} {c} {d} {e} {at} p q r s u h k =
-    let x : n % 256 ≡ n = omega arith in
-    let y : w / 256 % 256 ≡ w / 256 = omega arith in
-    let q' = rw x at q in
-    let r' = rw y at r in
-    laid_then (laid_then (laid_then (laid_then p q' (omega arith)) r' (omega arith)) s (omega arith)) u (omega arith)
+pub head-put : (t w n : ℕ) {xs a b c d e : List ℕ} {at : ℕ} → Laid xs a at (58 ∷ []) → Laid a b (at + 1) (digits (n ∷ [])) → Laid b c (at + 3) (digits (w / 256 ∷ []))
+    → Laid c d (at + 5) (digits (w % 256 ∷ [])) → Laid d e (at + 7) (digits (t ∷ [])) → Laid xs e at (head t w n)
+head-put t w n {xs} {a} {b} {c} {d} {e} {at} p q r s u = laid_then (laid_then (laid_then (laid_then p q (omega arith)) r (omega arith)) s (omega arith)) u (omega arith)
 
 -- its checksum
 check_made : (t a s : ℕ) (bs : List ℕ) → s ≡ sum bs % 256 → (256 - (length bs + a / 256 + a % 256 + t + s) % 256) % 256 ≡ checksum (fields t a bs)
@@ -128,105 +122,83 @@ no_records : (a : ℕ) (bs : List ℕ) → data_records 0 a bs ≡ []
 unfolding data_records
 no_records a bs = refl
 
-le_dec : (m n : ℕ) → (m ≤ n) ⊎ (n < m)
-le_dec m n = by (leb m n) refl
-  where
-    by : (b : Bool) → leb m n ≡ b → (m ≤ n) ⊎ (n < m)
-    by true e = inl (leb-true m n e)
-    by false e = inr (leb-false m n e)
-
-pub record Writing (xs bs out : List ℕ) (start at a : ℕ) : Type 0 where
+-- what is left of the bytes after i records, each of 16, is still to be written
+pub record Writing (xs bs rest out : List ℕ) (start i : ℕ) : Type 0 where
   pub front : List ℕ
-  pub within : a ≤ length bs
-  pub small : length bs ≤ 65536
   pub same : length out ≡ length xs
-  pub room : at + (2 * (length bs - a) + 12 * many (length bs - a)) ≤ length out
-  pub size : start + length front ≡ at
   pub done : Laid xs out start front
-  pub rest : front ++ data_records (many (length bs - a)) a (drop a bs) ≡ data_records (many (length bs)) 0 bs
+  pub left : front ++ data_records (many (length rest)) (16 * i) rest ≡ data_records (many (length bs)) 0 bs
+  pub places : 0 < length rest → (length front ≡ 44 * i) × (16 * i + length rest ≡ length bs)
 
-pub writing_start : (xs bs : List ℕ) (start : ℕ) → length bs ≤ 65536 → start + (2 * length bs + 12 * many (length bs)) ≤ length xs → Writing xs bs xs start start 0
-writing_start xs bs start h k =
-    let z : length bs - 0 ≡ length bs = omega arith in
+pub writing_start : (xs bs : List ℕ) (start : ℕ) → Writing xs bs bs xs start 0
+writing_start xs bs start =
     record {
       front = [];
-      within = omega arith;
-      small = h;
       same = refl;
-      room = omega arith;
-      size = omega arith;
       done = record { kept = refl; laid = refl };
-      rest = rw z;
+      left = refl;
+      places = λ h. (omega arith, omega arith);
     }
 
-module _ (bs : List ℕ) (a n : ℕ) (h : a < length bs) (e : n ≡ min 16 (length bs - a)) where
-  -- the code's part is the next sixteen bytes
-  share_same : take 16 (drop a bs) ≡ take (a + n - a) (drop a bs)
-  share_same =
-      let l = length-drop a bs in
-      rw (add-sub_cancel_left) (by (le_dec 16 n))
+-- the next sixteen bytes, or fewer if they are the last
+module _ (part rest : List ℕ) (e : length part ≡ min 16 (length (part ++ rest))) where
+  next_taken : take 16 (part ++ rest) ≡ part
+  next_taken = by rest e
     where
-      by : (16 ≤ n) ⊎ (n < 16) → take 16 (drop a bs) ≡ take n (drop a bs)
-      by (inl i) = let q : n ≡ 16 = omega arith in rw q
-      by (inr i) = let l = length-drop a bs in take_all 16 (drop a bs) (omega arith) ∙ sym (take_all n (drop a bs) (omega arith))
+      by : (rest : List ℕ) → length part ≡ min 16 (length (part ++ rest)) → take 16 (part ++ rest) ≡ part
+      by [] e = let l = length-append part [] in rw append-nil (take_all 16 part (omega arith))
+      by (c ∷ cs) e = let l = length-append part (c ∷ cs) in let k : 16 ≡ length part = omega arith in rw k (take_at part (c ∷ cs) (length part) refl)
 
-  share_rest : data_records (many (length bs - (a + n))) (a + 16) (drop 16 (drop a bs)) ≡ data_records (many (length bs - (a + n))) (a + n) (drop (a + n) bs)
-  unfolding data_records
-  share_rest = by (le_dec 16 n)
+  next_left : drop 16 (part ++ rest) ≡ rest
+  next_left = by rest e
     where
-      by : (16 ≤ n) ⊎ (n < 16) → data_records (many (length bs - (a + n))) (a + 16) (drop 16 (drop a bs)) ≡ data_records (many (length bs - (a + n))) (a + n) (drop (a + n) bs)
-      by (inl i) = let q : n ≡ 16 = omega arith in rw (drop-drop 16 a bs, q)
-      by (inr i) = let z : many (length bs - (a + n)) ≡ 0 = omega arith in rw z
+      by : (rest : List ℕ) → length part ≡ min 16 (length (part ++ rest)) → drop 16 (part ++ rest) ≡ rest
+      by [] e = let l = length-append part [] in rw append-nil (drop_of_length-le part {i = 16} (omega arith))
+      by (c ∷ cs) e = let l = length-append part (c ∷ cs) in let k : 16 ≡ length part = omega arith in rw k (drop_at part (c ∷ cs) (length part) refl)
 
-  share_step : data_records (many (length bs - a)) a (drop a bs) ≡ record_of 0 a (take (a + n - a) (drop a bs)) ++ data_records (many (length bs - (a + n))) (a + n) (drop (a + n) bs)
+  next_step : (a : ℕ) → 0 < length (part ++ rest) → data_records (many (length (part ++ rest))) a (part ++ rest) ≡ record_of 0 a part ++ data_records (many (length rest)) (a + 16) rest
   unfolding data_records
-  share_step =
-      let q : many (length bs - a) ≡ suc (many (length bs - (a + n))) = omega arith in
-      rw (← share_rest, ← share_same, q)
+  next_step a h =
+      let l = length-append part rest in
+      let q : many (length (part ++ rest)) ≡ suc (many (length rest)) = omega arith in
+      rw (q, next_taken, next_left)
 
-  pub share_long : length (take (a + n - a) (drop a bs)) ≡ n
-  share_long = simp (length-take, length-drop) (omega arith)
-
-pub writing-asked : {xs bs out : List ℕ} {start at a n : ℕ} → Writing xs bs out start at a → a < length bs → n ≡ min 16 (length bs - a)
-    → (at + (2 * length (take (a + n - a) (drop a bs)) + 12) ≤ length out) × ((a < 65536) × (length (take (a + n - a) (drop a bs)) < 256))
-writing-asked {xs} {bs} {out} {start} {at} {a} {n} w h e =
-    let l = share_long bs a n h e in
-    (omega (arith, w.room), (omega (arith, w.small), omega arith))
-
-pub writing_more : {xs bs out ys : List ℕ} {start at a n : ℕ} → Writing xs bs out start at a → a < length bs → n ≡ min 16 (length bs - a)
-    → Laid out ys at (record_of 0 a (take (a + n - a) (drop a bs))) → Writing xs bs ys start (at + (2 * n + 12)) (a + n)
-writing_more {xs} {bs} {out} {ys} {start} {at} {a} {n} w h e l =
-    let k = l.kept in
-    let s = share_long bs a n h e in
-    let r = length_record 0 a (take (a + n - a) (drop a bs)) in
-    let z = w.size in
-    let b = length-append w.front (record_of 0 a (take (a + n - a) (drop a bs))) in
+writing_step : {xs bs rest out ys : List ℕ} {start i : ℕ} (part : List ℕ) → Writing xs bs (part ++ rest) out start i → length part ≡ min 16 (length (part ++ rest)) → 0 < length (part ++ rest)
+    → Laid out ys (start + 44 * i) (record_of 0 (16 * i) part) → Writing xs bs rest ys start (i + 1)
+writing_step {xs} {bs} {rest} {out} {ys} {start} {i} part w e h l =
+    let p = w.places h in
+    let f = p.0 in
+    let g = p.1 in
+    let n = length-append part rest in
+    let r = length_record 0 (16 * i) part in
+    let b = length-append w.front (record_of 0 (16 * i) part) in
+    let z : 16 * i + 16 ≡ 16 * (i + 1) = omega arith in
     record {
-      front = w.front ++ record_of 0 a (take (a + n - a) (drop a bs));
-      within = omega arith;
-      small = w.small;
-      same = k ∙ w.same;
-      room = omega (arith, w.room);
-      size = omega arith;
+      front = w.front ++ record_of 0 (16 * i) part;
+      same = l.kept ∙ w.same;
       done = laid_then w.done l (omega arith);
-      rest = append_assoc w.front (record_of 0 a (take (a + n - a) (drop a bs))) (data_records (many (length bs - (a + n))) (a + n) (drop (a + n) bs)) ∙ (rw (share_step bs a n h e) at w.rest);
+      left = rw (← z) (append_assoc w.front (record_of 0 (16 * i) part) (data_records (many (length rest)) (16 * i + 16) rest) ∙ (rw (next_step part rest e (16 * i) h) at w.left));
+      places = λ q. (omega arith, omega arith);
     }
 
-pub writing_done : {xs bs out : List ℕ} {start at a : ℕ} → Writing xs bs out start at a → length bs ≤ a → Laid xs out start (data_records (many (length bs)) 0 bs)
-writing_done {xs} {bs} {out} {start} {at} {a} w h =
-    let z : many (length bs - a) ≡ 0 = omega arith in
-    let r : w.front ≡ data_records (many (length bs)) 0 bs = sym (append-nil w.front) ∙ ap (λ l. w.front ++ l) (sym none) ∙ (rw z at w.rest) in
+pub writing_more : {xs bs rest next out ys : List ℕ} {start i j k m : ℕ} (part : List ℕ) → Writing xs bs rest out start i → m ≡ 16 → rest ≡ part ++ next → length part ≡ min m (length rest) → 0 < length rest → j ≡ i → k ≡ i + 1
+    → Laid out ys (start + 44 * j) (record_of 0 (16 * j) part) → Writing xs bs next ys start k
+writing_more part w m e n h p q l = rw q (writing_step part (rw e at w) (rw (m, e) at n) (rw e at h) (rw p at l))
+
+pub writing_done : {xs bs rest out : List ℕ} {start i : ℕ} → Writing xs bs rest out start i → length rest ≡ 0 → Laid xs out start (data_records (many (length bs)) 0 bs)
+writing_done {xs} {bs} {rest} {out} {start} {i} w h =
+    let z : many (length rest) ≡ 0 = omega arith in
+    let r : w.front ≡ data_records (many (length bs)) 0 bs = sym (append-nil w.front) ∙ ap (λ l. w.front ++ l) (sym none) ∙ (rw z at w.left) in
     rw r at w.done
   where
-    none : data_records 0 a (drop a bs) ≡ []
-    none = no_records a (drop a bs)
+    none : data_records 0 (16 * i) rest ≡ []
+    none = no_records (16 * i) rest
 
-pub ruleset writing-cases = (writing_start, writing_more, writing_done)
-
-pub text-put : (bs : List ℕ) {xs a b c : List ℕ} → Laid xs a 0 (record_of 4 0 (0 ∷ 0 ∷ [])) → Laid a b 16 (data_records (many (length bs)) 0 bs)
-    → Laid b c (16 + 2 * length bs + 12 * many (length bs)) (record_of 1 0 []) → Laid xs c 0 (written bs)
+pub text-put : (bs : List ℕ) {n : ℕ} {xs a b c : List ℕ} → n ≡ length bs / 16 + min 1 (length bs % 16) → Laid xs a 0 (record_of 4 0 (0 ∷ 0 ∷ [])) → Laid a b 16 (data_records (many (length bs)) 0 bs)
+    → Laid b c (16 + 2 * length bs + 12 * n) (record_of 1 0 []) → Laid xs c 0 (written bs)
 unfolding written
-text-put bs p q r =
+text-put bs {n} e p q r =
+    let m : n ≡ many (length bs) = omega arith in
     let f = length_record 4 0 (0 ∷ 0 ∷ []) in
     let d = length_data (many (length bs)) 0 bs refl in
     let l = length-append (record_of 4 0 (0 ∷ 0 ∷ [])) (data_records (many (length bs)) 0 bs) in

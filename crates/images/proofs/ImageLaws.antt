@@ -1,14 +1,16 @@
 -- Loads and dumps: their checks, and what they leave.
 -- Assumes nothing.
-use mathlib.Core.Path.{◌≡◌, refl, sym, ap, ◌∙◌}
-use mathlib.Core.Bool.{Bool, true, false, true≢false, ◌&&◌, cond}
+use mathlib.Core.Path.{◌≡◌, refl, sym, ap, ◌∙◌, subst}
+use mathlib.Core.Bool.{true, false, true≢false, ◌&&◌, cond}
 use mathlib.Core.List.{List, [], ◌∷◌, ◌++◌}
-use Prim.Native.Nat.{ℕ, ◌+◌, ◌-◌, ◌^◌, ◌≤◌, ◌<◌, max}
+use Rattle.std.specs.Prelude.{Result, Ok, Err, IsErrAnd, MatchResult}
+use Rattle.std.proofs.lemmas.Result.{err_from_is_err_and}
+use Prim.Native.Nat.{ℕ, ◌+◌, ◌-◌, ◌^◌, ◌≤◌}
 use native.Mathlib.Nat.{add-sub_cancel_left}
 use native.Mathlib.Omega.{arith}
 use lib.Dec.{eqb, leb, ltb}
 use lib.ListN.{drop, length, length-drop, length-take, take}
-use borrow.Author.Tests.{le-leb, leb-true, lt-leb}
+use borrow.Author.Tests.{leb-true}
 use borrow.Rule.Slice.PartMut.{put_mid}
 use Rattle.hexfile.specs.Accounted as claim
 use Rattle.hexfile.specs.Text.{farthest, loads, Piece, refused, Said, said}
@@ -16,12 +18,15 @@ use Rattle.hexfile.specs.Written.{written, written_length}
 use Rattle.hexfile.proofs.AccountedLaws.{accounted}
 use Rattle.hexfile.proofs.WrittenLaws.{written-long}
 use Rattle.hexread.specs.Answers.{applied, Fits, judged_as}
-use Rattle.hexread.specs.declared.text.Judged.{Judged}
-use Rattle.hexread.specs.declared.text.Judged.TheVariants.{Loads, Malformed, WrongSum}
+use Rattle.hexread.specs.declared.record.Fault.{Fault}
 use Rattle.tokens.specs.Permissions.{R, W, within}
 use Rattle.tokens.specs.Token.{named}
 use Rattle.layout.specs.declared.entry.Entry.{Entry}
 use Rattle.tokens.specs.declared.token.Named.{Named}
+use Rattle.bits.proofs.TestLaws.{both}
+use Rattle.checks.specs.Refusals.{stop_as}
+use Rattle.checks.specs.declared.refusal.Refusal as code
+use Rattle.images.specs.Segments.{fault_as}
 use Rattle.checks.specs.Holds.{request_holds, settings_hold, shift_holds}
 use Rattle.checks.specs.Shifts.{shift_verdict}
 use Rattle.checks.proofs.ShiftLaws.{hold_append, shift_read, shift_text}
@@ -71,35 +76,30 @@ module _ (b : List ℕ) where
   unfolding spares
   text-wrong e = rw e
 
-  -- what the code judges of it
-  module _ (j : Judged) (is : j ≡ judged_as 0 (said b)) where
-    pub judged-malformed : j ≡ Malformed → verdict (text_read b) ≡ stop at_record
-    judged-malformed h = by (said_of b)
-      where
-        by : Said-of b → verdict (text_read b) ≡ stop at_record
-        by (reads ps e) = let d : Malformed ≡ judged_as 0 (loads ps) = sym h ∙ is ∙ ap (judged_as 0) e in let z : ◌≡◌ {A = ℕ} 0 1 = cc in absurd (omega arith)
-        by (twelve e) = text-malformed e
-        by (thirteen e) = let d : Malformed ≡ WrongSum = sym h ∙ is ∙ ap (judged_as 0) e in let z : ◌≡◌ {A = ℕ} 0 1 = cc in absurd (omega arith)
+  -- what the code judges of it, as a fault and as a refusal
+  abbrev Judged : Result ℕ Fault → Type 0
+  Judged (Err f) = verdict (text_read b) ≡ stop_as (fault_as f)
+  Judged (Ok end) = (verdict (text_read b) ≡ pass) × (farthest (pieces_of b) ≡ end)
 
-    pub judged-wrong : j ≡ WrongSum → verdict (text_read b) ≡ stop at_checksum
-    judged-wrong h = by (said_of b)
-      where
-        by : Said-of b → verdict (text_read b) ≡ stop at_checksum
-        by (reads ps e) = let d : WrongSum ≡ judged_as 0 (loads ps) = sym h ∙ is ∙ ap (judged_as 0) e in let z : ◌≡◌ {A = ℕ} 0 1 = cc in absurd (omega arith)
-        by (twelve e) = let d : WrongSum ≡ Malformed = sym h ∙ is ∙ ap (judged_as 0) e in let z : ◌≡◌ {A = ℕ} 0 1 = cc in absurd (omega arith)
-        by (thirteen e) = text-wrong e
+  abbrev Told : Result ℕ code.Refusal → Type 0
+  Told (Err why) = verdict (text_read b) ≡ stop_as why
+  Told (Ok end) = (verdict (text_read b) ≡ pass) × (farthest (pieces_of b) ≡ end)
 
-    pub judged-loads : (end : ℕ) → j ≡ Loads end → (verdict (text_read b) ≡ pass) × (farthest (pieces_of b) ≡ end)
-    unfolding pieces_of
-    judged-loads end h = by (said_of b)
-      where
-        by : Said-of b → (verdict (text_read b) ≡ pass) × (farthest (pieces_of b) ≡ end)
-        by (reads ps e) =
-            let d : Loads end ≡ Loads (max 0 (farthest ps)) = sym h ∙ is ∙ ap (judged_as 0) e in
-            let z : end ≡ max 0 (farthest ps) = cc in
-            (text-reads ps e, rw e (omega arith))
-        by (twelve e) = let d : Loads end ≡ Malformed = sym h ∙ is ∙ ap (judged_as 0) e in let z : ◌≡◌ {A = ℕ} 0 1 = cc in absurd (omega arith)
-        by (thirteen e) = let d : Loads end ≡ WrongSum = sym h ∙ is ∙ ap (judged_as 0) e in let z : ◌≡◌ {A = ℕ} 0 1 = cc in absurd (omega arith)
+  judged_lem : Judged (judged_as 0 (said b))
+  unfolding pieces_of
+  judged_lem = by (said_of b)
+    where
+      by : Said-of b → Judged (judged_as 0 (said b))
+      by (reads ps e) = subst (λ (s : Said). Judged (judged_as 0 s)) (sym e) (text-reads ps e, rw e (omega arith))
+      by (twelve e) = subst (λ (s : Said). Judged (judged_as 0 s)) (sym e) (text-malformed e)
+      by (thirteen e) = subst (λ (s : Said). Judged (judged_as 0 s)) (sym e) (text-wrong e)
+
+  pub told_lem : (j : Result ℕ Fault) (r : Result ℕ code.Refusal) → j ≡ judged_as 0 (said b) → MatchResult j (λ (end : ℕ). r ≡ Ok end) (λ (f : Fault). IsErrAnd r (λ (why : code.Refusal). why ≡ fault_as f)) → Told r
+  told_lem j r is h = by j (subst Judged (sym is) judged_lem) h
+    where
+      by : (j : Result ℕ Fault) → Judged j → MatchResult j (λ (end : ℕ). r ≡ Ok end) (λ (f : Fault). IsErrAnd r (λ (why : code.Refusal). why ≡ fault_as f)) → Told r
+      by (Ok end) k h = subst Told (sym h) k
+      by (Err f) k h = let p = err_from_is_err_and r h in subst Told (sym p.1) (k ∙ ap stop_as (sym p.2))
 
   -- a text that is not refused is read, and its data lie in what they end in
   text_fits : (n : ℕ) → spares 12 b ≡ true → spares 13 b ≡ true → farthest (pieces_of b) ≤ n → Fits (said b) n
@@ -121,9 +121,6 @@ stored_back a n b m ys h f e = by (said b) f e
     by : (s : Said) → Fits s n → ys ≡ applied s (take (a + n - a) (drop a m)) → put_mid a (a + n - a) m ys ≡ stored (placed a (pieces_in s)) m
     by (refused k) f e = absurd f
     by (loads ps) f e = rw (e, add-sub_cancel_left) (sym (stored-part a n ps m h f))
-
-pub fits_as_lem : (a n : ℕ) (b m : List ℕ) → a + n ≤ length m → Fits (said b) n → Fits (said b) (length (take (a + n - a) (drop a m)))
-fits_as_lem a n b m h f = let long : length (take (a + n - a) (drop a m)) ≡ n = simp (add-sub_cancel_left, length-take, length-drop) (omega arith) in rw long f
 
 -- ---- a load
 
@@ -186,17 +183,11 @@ module _ (m : ℕ) (s : State) (t : List ℕ) (k u : ℕ) (φ : Shift) (b : List
 pub load-buffer : (m : ℕ) (s : State) (t : List ℕ) (k u : ℕ) (φ : Shift) (b memory : List ℕ) → b ≡ buffer_after (effect_on m s t (load k u φ) b) memory b
 load-buffer m s t k u φ b memory = by_effect (λ (f : Effect). b ≡ buffer_after f memory b) m s t (load k u φ) b refl refl
 
-pub load-handed : (m : ℕ) (s : StateWords) (t : List ℕ) (k u : ℕ) (φ : Shift) (b : List ℕ) → verdict_on m (state_as s) t (load k u φ) b ≡ pass → handed (filling_so s 0) t ≡ ruling_on m (state_as s) t (load k u φ) b
+pub load-handed : (m : ℕ) (s : StateWords) (t : List ℕ) (k u : ℕ) (φ : Shift) (b : List ℕ) → verdict_on m (state_as s) t (load k u φ) b ≡ pass → handed s t (Ok (filling_so 0)) ≡ ruling_on m (state_as s) t (load k u φ) b
 unfolding granting
-load-handed m s t k u φ b h = decided-pass m (state_as s) t (load k u φ) b (handed (filling_so s 0) t) refl h
+load-handed m s t k u φ b h = decided-pass m (state_as s) t (load k u φ) b (handed s t (Ok (filling_so 0))) refl h
 
 -- ---- a dump
-
-pub room_some : (n room : ℕ) {w : ℕ} → n ≤ 23820 → w ≡ written_length n → leb w room ≡ (leb (written_length n) 65536 && leb (written_length n) room)
-room_some n room h e = rw (e, le-leb (written_length n) 65536 (omega arith))
-
-pub room_none : (n room : ℕ) → 23820 < n → false ≡ (leb (written_length n) 65536 && leb (written_length n) room)
-room_none n room h = rw (lt-leb (written_length n) 65536 (omega arith))
 
 module _ (m : ℕ) (s : State) (t : List ℕ) (k u : ℕ) (φ : Shift) (b : List ℕ) where
   module _ (n : Named) (e : Entry) (is : n ≡ named k) (there : e ≡ at t n.number) where
@@ -243,11 +234,6 @@ module _ (memory : List ℕ) (a n : ℕ) (inside : a + n ≤ length memory) wher
   pub text_out : (b : List ℕ) → (leb (written_length n) 65536 && leb (written_length n) (length b)) ≡ false → verdict (lastly (text a n).fill memory b) ≡ stop at_room
   text_out b h = text-room b ∙ rw h
 
-both : (a b : Bool) → (a && b) ≡ true → (a ≡ true) × (b ≡ true)
-both true true h = (refl, refl)
-both true false h = absurd (true≢false (sym h))
-both false b h = absurd (true≢false (sym h))
-
 -- a text that has its room is of few bytes
 pub few_bytes : (n room : ℕ) → (leb (written_length n) 65536 && leb (written_length n) room) ≡ true → (n ≤ 23820) × (written_length n ≤ room)
 few_bytes n room h = let p = both (leb (written_length n) 65536) (leb (written_length n) room) h in (omega (arith, leb-true (written_length n) 65536 p.0), leb-true (written_length n) room p.1)
@@ -256,5 +242,5 @@ few_bytes n room h = let p = both (leb (written_length n) 65536) (leb (written_l
 pub dump-handed : (s : StateWords) (t : List ℕ) (k : ℕ) (b memory : List ℕ) (l : ℕ) → let e : Entry = named_entry t k in
     e.base + e.length ≤ length memory
     → l ≡ written_length e.length
-    → handed (filling_so s l) t ≡ ruled (Steps.telling (told_length (text e.base e.length).fill memory) (carried (state_as s) t (grant_access t dumping k b)))
+    → handed s t (Ok (filling_so l)) ≡ ruled (Steps.telling (told_length (text e.base e.length).fill memory) (carried (state_as s) t (grant_access t dumping k b)))
 dump-handed s t k b memory l inside e = rw (e, text-long memory (named_entry t k).base (named_entry t k).length inside)

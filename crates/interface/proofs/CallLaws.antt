@@ -14,8 +14,10 @@ use Rattle.machine.specs.Parts.{State}
 use Rattle.machine.specs.Requests.{Access, accessing, Request, Shift}
 use Rattle.machine.specs.Steps.{answer, Machine, step}
 use Rattle.rulings.specs.Rulings.{reply_as}
-use Rattle.rulings.specs.Served.{before, call_as, Served}
-use Rattle.rulings.specs.declared.reply.Outcome.{Outcome}
+use Rattle.rulings.specs.Served.{call_as, Served, standing}
+use Rattle.rulings.specs.declared.reply.Granted.{Granted}
+use Rattle.checks.specs.declared.refusal.Refusal.{Refusal}
+use Rattle.std.specs.Prelude.{Result}
 use Rattle.table.specs.States.{state_as}
 use Rattle.table.specs.declared.state.StateWords.{StateWords}
 use Rattle.interface.specs.Exported.{answer_bytes, answer_size, Asked, asked, carried, exported, known, Lent, lent_fits, request_of, request_size, served, shift_of, sized, state_bytes, state_of, state_size}
@@ -23,13 +25,13 @@ use Rattle.interface.specs.Meanings.{left}
 use Rattle.interface.proofs.WordLaws.{words-kept}
 
 -- a step of the code's state, stored, is what a known request leaves
-pub step_carried : (q : Request) (s t m b a : List ℕ) (x : StateWords) (r : Outcome) (n : ℕ) (s' t' m' b' a' : List ℕ)
+pub step_carried : (q : Request) (s t m b a : List ℕ) (x y : StateWords) (r : Result Granted Refusal) (n : ℕ) (s' t' m' b' a' : List ℕ)
     → state_as x ≡ state_of s
-    → Served q x t m b r t' m' b'
-    → s' ≡ state_bytes (state_as r.state)
-    → (n ≡ (reply_as r.reply).refusal) × (a' ≡ answer_bytes (reply_as r.reply))
+    → Served q x t m b y t' m' b' r
+    → s' ≡ state_bytes (state_as y)
+    → (n ≡ (reply_as r).refusal) × (a' ≡ answer_bytes (reply_as r))
     → left n s' t' m' b' a' ≡ carried (known q) s t m b a
-step_carried q s t m b a x r n s' t' m' b' a' hx h hs ha =
+step_carried q s t m b a x y r n s' t' m' b' a' hx h hs ha =
     rw (hs, ha.0, ha.1)
     (ap₂ served h.step h.answer
     ∙ ap (λ (z : State). served (step (record { state = z; table = t; memory = m }) (call_as q b)) (answer (record { state = z; table = t; memory = m }) (call_as q b))) hx)
@@ -49,17 +51,17 @@ state-kept : (s : List ℕ) → ((i : ℕ) → get_or s i 0 < 256) → length s 
 state-kept s bytes long = words-kept 5 (word s) s (λ i. refl) bytes long
 
 -- what is stored, or was left where the request leaves the state, is the state's bytes
-pub stored-state : (leaves : Bool) (q : Request) (s t m b : List ℕ) (x : StateWords) (r : Outcome) (s' t' m' b' : List ℕ)
+pub stored-state : (leaves : Bool) (q : Request) (s t m b : List ℕ) (x y : StateWords) (r : Result Granted Refusal) (s' t' m' b' : List ℕ)
     → ((i : ℕ) → get_or s i 0 < 256)
     → length s ≡ state_size
     → state_as x ≡ state_of s
-    → Served q x t m b r t' m' b'
+    → Served q x t m b y t' m' b' r
     → (leaves ≡ true → (σ : Machine) (b : List ℕ) → (step σ (call_as q b)).state ≡ σ.state)
-    → s' ≡ cond leaves s (state_bytes (state_as r.state))
-    → s' ≡ state_bytes (state_as r.state)
-stored-state true q s t m b x r s' t' m' b' bytes long hx h l e =
-    e ∙ sym (state-kept s bytes long) ∙ ap state_bytes (sym (ap (λ (σ : Machine). σ.state) h.step ∙ l refl (before x t m) b ∙ hx))
-stored-state false q s t m b x r s' t' m' b' bytes long hx h l e = e
+    → s' ≡ cond leaves s (state_bytes (state_as y))
+    → s' ≡ state_bytes (state_as y)
+stored-state true q s t m b x y r s' t' m' b' bytes long hx h l e =
+    e ∙ sym (state-kept s bytes long) ∙ ap state_bytes (sym (ap (λ (σ : Machine). σ.state) h.step ∙ l refl (standing x t m) b ∙ hx))
+stored-state false q s t m b x y r s' t' m' b' bytes long hx h l e = e
 
 -- ---- sizes
 

@@ -1,23 +1,18 @@
 // A request as bytes: its words one after the other.
-ghost use Rattle.std.specs.Prelude.{◌≡◌, List, [], ℕ, length};
+ghost use Rattle.std.specs.Prelude.{◌≡◌, List, ℕ, length, option_copied, IsSome};
 ghost use Rattle.checks.specs.Shifts.{shift_as};
-ghost use Rattle.interface.specs.Exported.{no_leases, picked, request_of, request_size, shift_of, with_leases};
-ghost use Rattle.interface.specs.Meanings.{asked_as};
+ghost use Rattle.interface.specs.Exported.{picked, request_of, request_size, shift_of, with_leases};
+ghost use Rattle.interface.specs.Meanings.{asked_as, lent_as, lent_bytes};
 
 use crate::words::word_at;
-use rulings::request::{Image, Request, Way};
+use rulings::request::{
+    Access, Create, Derive, Image, ImageAccess, Merge, PageIn, PageOut, Request, Reset, Way,
+};
 
 // In bytes.
 pub const REQUEST_SIZE: usize = 64;
 
-// What is asked: a request, or nothing that the machine has.
-#[derive(Clone, Copy)]
-pub enum Asked {
-    Known(Request),
-    Unknown,
-}
-
-// The operation's number picks the request. Words that it does not use are not looked at. The minute
+// The operation's number, which is the C interface's, picks the request. Words that it does not use are not looked at. The minute
 // is that of an access.
 #[tactic(auto, unfolding(crate::specs::Exported::picked))]
 fn pick(
@@ -30,90 +25,90 @@ fn pick(
     permissions: u64,
     encoding: u64,
     minute: u64,
-) -> Asked
+) -> Option<Request>
     ensures { (ls : List ℕ) → asked_as result ls ≡ picked operation token second task length user permissions encoding (shift_as minute ls) }
 {
     match operation {
-        0 => Asked::Known(Request::Reset {
+        0 => Some(Request::Reset(Reset {
             key0: token,
             key1: second,
             first_nonce: task,
-        }),
-        1 => Asked::Known(Request::Access {
+        })),
+        1 => Some(Request::Access(Access {
             way: Way::Read,
             token,
             task,
             minute,
-        }),
-        2 => Asked::Known(Request::Access {
+        })),
+        2 => Some(Request::Access(Access {
             way: Way::Write,
             token,
             task,
             minute,
-        }),
-        3 => Asked::Known(Request::Access {
+        })),
+        3 => Some(Request::Access(Access {
             way: Way::Fetch,
             token,
             task,
             minute,
-        }),
-        4 => Asked::Known(Request::Create {
+        })),
+        4 => Some(Request::Create(Create {
             token,
             task,
             length,
             user,
             permissions,
             encoding,
-        }),
-        5 => Asked::Known(Request::Merge {
+        })),
+        5 => Some(Request::Merge(Merge {
             first: token,
             second,
             task,
             encoding,
-        }),
-        6 => Asked::Known(Request::Derive {
+        })),
+        6 => Some(Request::Derive(Derive {
             token,
             offset: second,
             length,
             permissions,
             encoding,
-        }),
-        7 => Asked::Known(Request::ExecuteOnly { token, encoding }),
-        8 => Asked::Known(Request::Clone { token }),
-        9 => Asked::Known(Request::Drop { token }),
-        10 => Asked::Known(Request::Lock { token, task }),
-        11 => Asked::Known(Request::Unlock { token, task }),
-        12 => Asked::Known(Request::Revoke { token, encoding }),
-        13 => Asked::Known(Request::Image {
+        })),
+        7 => Some(Request::ExecuteOnly { token, encoding }),
+        8 => Some(Request::Clone { token }),
+        9 => Some(Request::Drop { token }),
+        10 => Some(Request::Lock { token, task }),
+        11 => Some(Request::Unlock { token, task }),
+        12 => Some(Request::Revoke { token, encoding }),
+        13 => Some(Request::Image(ImageAccess {
             kind: Image::Load,
             token,
             task,
             minute,
-        }),
-        14 => Asked::Known(Request::Image {
+        })),
+        14 => Some(Request::Image(ImageAccess {
             kind: Image::Dump,
             token,
             task,
             minute,
-        }),
-        15 => Asked::Known(Request::PageOut {
+        })),
+        15 => Some(Request::PageOut(PageOut {
             token,
             task,
             page: second,
             encoding,
-        }),
-        16 => Asked::Known(Request::PageIn {
+        })),
+        16 => Some(Request::PageIn(PageIn {
             token,
             donor: second,
             task,
             encoding,
-        }),
-        _ => Asked::Unknown,
+        })),
+        _ => None,
     }
 }
 
 // The request that the bytes hold, with the minute of an access.
-fn request_at(request: &[u8], minute: u64) -> Asked
+fn request_at(request: &[u8], minute: u64) -> Option<Request>
     requires { length request.now ≡ request_size }
     ensures { (ls : List ℕ) → asked_as result ls ≡ request_of request.now (shift_as minute ls) }
 {
@@ -130,18 +125,15 @@ fn request_at(request: &[u8], minute: u64) -> Asked
     )
 }
 
-// The request of a call without leases, whose minute is not looked at.
-pub fn request_of(request: &[u8]) -> Asked
+// The request of a call; none, if the machine has none of its number. With leases an access has its
+// minute in word 2; without, its minute is not looked at.
+pub fn request_of(request: &[u8], leases: Option<&[u8]>) -> Option<Request>
     requires { length request.now ≡ request_size }
-    ensures { asked_as result [] ≡ request_of request.now (shift_of request.now no_leases) }
+    ensures lent { asked_as result (lent_bytes (option_copied leases.entry)) ≡ request_of request.now (shift_of request.now (lent_as (option_copied leases.entry))) }
+    ensures leased { IsSome leases.entry → (ls : List ℕ) → asked_as result ls ≡ request_of request.now (shift_of request.now (with_leases ls)) }
 {
-    request_at(request, 0)
-}
-
-// The request of a call with leases: an access has its minute in word 2.
-pub fn leased_request_of(request: &[u8]) -> Asked
-    requires { length request.now ≡ request_size }
-    ensures { (ls : List ℕ) → asked_as result ls ≡ request_of request.now (shift_of request.now (with_leases ls)) }
-{
-    request_at(request, word_at(request, 2))
+    match leases {
+        None => request_at(request, 0),
+        Some(_) => request_at(request, word_at(request, 2)),
+    }
 }

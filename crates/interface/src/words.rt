@@ -34,9 +34,7 @@ pub fn put_words(part: &mut [u8], words: &[u64])
     requires { length part.old ≡ 8 * length words.now }
     ensures { part.new ≡ word_bytes words.now }
 {
-    let mut i = 0;
-    while i < words.len() {
+    for i in 0..words.len() {
         put_word(part, i, words[i]);
-        i += 1;
     }
 }

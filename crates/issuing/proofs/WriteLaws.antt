@@ -26,20 +26,20 @@ use Rattle.table.specs.Left.{left_by}
 
 -- one that is issued with the nonce r, where l is then the last number and total the free total
 pub entered_left : (s : State) (t : List ℕ) (n c l total : ℕ) (e : Entry) (r : Found) (k : ℕ) (t' : List ℕ)
-    → Finds s t n e r → r.nonce < spent → k ≡ token_for c (record { number = n; tag = r.tag }) → t' ≡ put t n (retag (dated e r.nonce) r.tag)
+    → Finds s t n e r → k ≡ token_for c (record { number = n; tag = r.tag }) → t' ≡ put t n (retag (dated e r.nonce) r.tag)
     → record { state = moved s l (r.nonce + 1) total; table = t'; tokens = k ∷ [] } ≡ left_by (entered c (opened s t) l total n (dated e))
-entered_left s t n c l total e r k t' f left h i = rw (i, h, f.tag left, ← f.nonce)
+entered_left s t n c l total e r k t' f h i = rw (i, h, f.tag, ← f.nonce)
 
 -- one after the other, the first under number n and the second under number k, where l₁ and l are then the last numbers, and total₁ and total the free totals
 pub two_left : (s : State) (t : List ℕ) (n k c l₁ total₁ l total : ℕ) (e f : Entry) (r : FoundTwo) (i j : ℕ) (t₁ t₂ : List ℕ)
-    → FindsTwo s t n e k f r → r.second.nonce < spent
+    → FindsTwo s t n e k f r
     → i ≡ token_for c (record { number = n; tag = r.first.tag }) → j ≡ token_for c (record { number = k; tag = r.second.tag })
     → t₁ ≡ put t n (retag (dated e r.first.nonce) r.first.tag) → t₂ ≡ put t₁ k (retag (dated f r.second.nonce) r.second.tag)
     → record { state = moved s l (r.second.nonce + 1) total; table = t₂; tokens = i ∷ j ∷ [] } ≡ left_by (entered c (entered c (opened s t) l₁ total₁ n (dated e)) l total k (dated f))
-two_left s t n k c l₁ total₁ l total e f r i j t₁ t₂ found left x y p q =
-    let first = found.one left in
-    let second = found.two left l₁ total₁ in
-    rw (q, p, x, y, first.tag (found.left left), second.tag left, ← first.nonce, ← second.nonce)
+two_left s t n k c l₁ total₁ l total e f r i j t₁ t₂ found x y p q =
+    let first = found.one in
+    let second = found.two l₁ total₁ in
+    rw (q, p, x, y, first.tag, second.tag, ← first.nonce, ← second.nonce)
 
 -- ---- the new number, once an entry that is not free is issued anew
 
@@ -59,11 +59,11 @@ stamped m g ν laid h i = go (read-storable m (subst Laid (ap (λ (e : Entry). e
     go (is_indirect k p n z f) = is_indirect k p n z (omega arith)
     go (is_paged k b c p n f) = is_paged k b c p n (omega arith)
 
-pub new_kept : (s : State) (t : List ℕ) (n k c m : ℕ) (r : Found) → Finds s t k (entry_of m) r → r.nonce < spent → (at t k).kind ≢ 0 → Laid (entry_of m).kind
+pub new_kept : (s : State) (t : List ℕ) (n k c m : ℕ) (r : Found) → Finds s t k (entry_of m) r → (at t k).kind ≢ 0 → Laid (entry_of m).kind
     → n ≡ new_number s t → let b = write c (opened s t) (reissue k (dated (entry_of m))) in n ≡ new_number b.state b.table
 unfolding tag_of
-new_kept s t n k c m r found left full laid new =
+new_kept s t n k c m r found full laid new =
     new ∙ sym (number_same s s t _ refl (size-put _ _ _)
-    (put_all (λ i x. eqb x.kind 0 ≡ eqb (at t i).kind 0) t k _ (stamped m _ _ laid (mod-lt _ (pow_pos 16)) (rw (← found.nonce) left)) (in_table t k full)
+    (put_all (λ i x. eqb x.kind 0 ≡ eqb (at t i).kind 0) t k _ (stamped m _ _ laid (mod-lt _ (pow_pos 16)) (rw (← found.nonce) found.left)) (in_table t k full)
     (rw (ne_eqb _ 0 full) (ne_eqb _ 0 (filled laid)))
     (λ i z. refl)))

@@ -1,21 +1,11 @@
--- What an issue leaves, and what it needs.
+-- What an issue needs.
 -- Assumes nothing.
-use Rattle.std.specs.Prelude.{List, [], ◌∷◌, ℕ, ◌≤◌, ◌<◌}
+use Rattle.std.specs.Prelude.{List, ℕ, ◌≤◌, ◌<◌}
 use Rattle.entering.specs.Nonces.{Finds, FindsTwo, Issuable}
 use Rattle.entering.specs.declared.nonces.Found.{Found}
 use Rattle.entering.specs.declared.nonces.FoundTwo.{FoundTwo}
 use Rattle.layout.specs.declared.entry.Entry.{Entry}
-use Rattle.machine.specs.Parts.{spent, State}
-use Rattle.table.specs.Left.{Left}
-use Rattle.table.specs.States.{state_as}
-use Rattle.issuing.specs.declared.writes.Issued.{Issued}
-use Rattle.issuing.specs.declared.writes.IssuedTwo.{IssuedTwo}
-
-abbrev pub issued_as : Issued → List ℕ → Left
-issued_as r t = record { state = state_as r.state; table = t; tokens = r.token ∷ [] }
-
-abbrev pub issued_two_as : IssuedTwo → List ℕ → Left
-issued_two_as r t = record { state = state_as r.state; table = t; tokens = r.first ∷ r.second ∷ [] }
+use Rattle.machine.specs.Parts.{State}
 
 -- the entry e is issued under number n with the nonce that was found for it
 pub record Issues (s : State) (t : List ℕ) (n : ℕ) (e : Entry) (new : Found) (encoding : ℕ) : Type 0 where
@@ -23,7 +13,6 @@ pub record Issues (s : State) (t : List ℕ) (n : ℕ) (e : Entry) (new : Found)
   pub small : n < 1024
   pub encoded : encoding ≤ 3
   pub found : Finds s t n e new
-  pub left : new.nonce < spent
 
 -- e under number n, and then f under number k
 pub record IssuesTwo (s : State) (t : List ℕ) (n : ℕ) (e : Entry) (k : ℕ) (f : Entry) (new : FoundTwo) (encoding : ℕ) : Type 0 where
@@ -32,4 +21,3 @@ pub record IssuesTwo (s : State) (t : List ℕ) (n : ℕ) (e : Entry) (k : ℕ) 
   pub small : (n < 1024) × (k < 1024)
   pub encoded : encoding ≤ 3
   pub found : FindsTwo s t n e k f new
-  pub left : new.second.nonce < spent

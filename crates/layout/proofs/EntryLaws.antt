@@ -5,6 +5,7 @@ use mathlib.Core.Bool.{Bool, true, false, cond}
 use mathlib.Core.List.{List, [], ◌∷◌}
 use Prim.Native.Nat.{ℕ, zero, suc, ◌+◌, ◌*◌, ◌/◌, ◌%◌, ◌^◌, ◌<◌}
 use native.Mathlib.Nat.{div-one, lt_of_lt_of_le, mod-lt, mod-eq_of_lt, mul-one, add-zero, zero-add, zero-mul, div-add-mod'}
+use native.Mathlib.Decide.{dec_lt}
 use native.Mathlib.Omega.{arith}
 use lib.Arith.{digits_lt}
 use lib.Pow.{mod-pow-add, pow-add, pow_pos, shr_lt, shr_mod}
@@ -463,6 +464,10 @@ last_fields d b =
     ∙ ap (λ (x : ℕ). pack (13 ∷ 1 ∷ 50 ∷ []) ((d / 2 ^ 54 * 8 + d / 2 ^ 51 % 8) ∷ b ∷ x ∷ [])) low
     ∙ last_sum (d / 2 ^ 54) (d / 2 ^ 51 % 8) b (d / 2 ^ 49 % 2) (d / 2 ^ 48 % 2) (d / 2 ^ 32 % 2 ^ 16) (d % 2 ^ 32)
 
+-- above the low 45 bits stand a count of 16 and three more
+count_kept : (b i x : ℕ) → x ≡ pack (19 ∷ 45 ∷ []) (b / 2 ^ 45 ∷ i ∷ []) → x ≡ pack (3 ∷ 16 ∷ 45 ∷ []) (b / 2 ^ 61 ∷ b / 2 ^ 45 % 2 ^ 16 ∷ i ∷ [])
+count_kept b i x q = omega arith
+
 -- the words with another lock
 module _ (w : Words) (l : Bool) (h z : ℕ) (f : Fit word_widths (word_list w)) (hz : z < 2 ^ 64)
     (qz : z ≡ pack (13 ∷ 1 ∷ 50 ∷ []) (w.d / 2 ^ 51 ∷ bit l ∷ w.d % 2 ^ 50 ∷ [])) where
@@ -497,16 +502,15 @@ module _ (w : Words) (l : Bool) (h z : ℕ) (f : Fit word_widths (word_list w)) 
       ∙ ap (λ (o : Entry). entry_number (relocked o l h)) (at w f t)
 
   pub relock_direct : (x y : ℕ) → x < 2 ^ 64 → y < 2 ^ 64 → h < 2 ^ 55 → w.a / 2 ^ 61 ≡ 1
-      → x ≡ pack (3 ∷ 16 ∷ 45 ∷ []) (w.b / 2 ^ 61 ∷ w.b / 2 ^ 45 % 2 ^ 16 ∷ h / 1024 ∷ [])
-      → y ≡ pack (10 ∷ 54 ∷ []) (h % 1024 ∷ w.c % 2 ^ 54 * 1024 / 1024 ∷ [])
+      → x ≡ pack (19 ∷ 45 ∷ []) (w.b / 2 ^ 45 ∷ h / 1024 ∷ [])
+      → y ≡ pack (10 ∷ 54 ∷ []) (h % 1024 ∷ w.c % 2 ^ 54 ∷ [])
       → words_number (record { a = w.a; b = x; c = y; d = z }) ≡ entry_number (relocked (entry_of (words_number w)) l h)
   unfolding direct_read
   relock_direct x y hx hy hh t qx qy =
       let v : Words = record { a = w.a; b = x; c = y; d = z } in
       let m : Entry = end_from 1 (unpack end_widths w.d) in
-      let q45 : w.c % 2 ^ 54 * 1024 / 1024 ≡ w.c % 2 ^ 54 = omega arith in
-      let bs : unpack (3 ∷ 16 ∷ 45 ∷ []) x ≡ w.b / 2 ^ 61 ∷ w.b / 2 ^ 45 % 2 ^ 16 ∷ h / 1024 ∷ [] = ap (unpack (3 ∷ 16 ∷ 45 ∷ [])) qx ∙ unpack-pack (3 ∷ 16 ∷ 45 ∷ []) _ (shr_lt 3 61 f.1.0, (mod-lt (w.b / 2 ^ 45) (pow_pos 16), (shr_lt 45 10 hh, tt))) in
-      let cs : unpack (10 ∷ 54 ∷ []) y ≡ h % 1024 ∷ w.c % 2 ^ 54 ∷ [] = ap (unpack (10 ∷ 54 ∷ [])) (rw q45 at qy) ∙ unpack-pack (10 ∷ 54 ∷ []) _ (mod-lt h (pow_pos 10), (mod-lt w.c (pow_pos 54), tt)) in
+      let bs : unpack (3 ∷ 16 ∷ 45 ∷ []) x ≡ w.b / 2 ^ 61 ∷ w.b / 2 ^ 45 % 2 ^ 16 ∷ h / 1024 ∷ [] = ap (unpack (3 ∷ 16 ∷ 45 ∷ [])) (count_kept w.b (h / 1024) x qx) ∙ unpack-pack (3 ∷ 16 ∷ 45 ∷ []) _ (shr_lt 3 61 f.1.0, (mod-lt (w.b / 2 ^ 45) (pow_pos 16), (shr_lt 45 10 hh, tt))) in
+      let cs : unpack (10 ∷ 54 ∷ []) y ≡ h % 1024 ∷ w.c % 2 ^ 54 ∷ [] = ap (unpack (10 ∷ 54 ∷ [])) qy ∙ unpack-pack (10 ∷ 54 ∷ []) _ (mod-lt h (pow_pos 10), (mod-lt w.c (pow_pos 54), tt)) in
       let b1 : x / 2 ^ 61 ≡ w.b / 2 ^ 61 = sym (shr_mod 3 61 hx) ∙ ap (λ n. get_or n 0 0) bs in
       let b2 : x / 2 ^ 45 % 2 ^ 16 ≡ w.b / 2 ^ 45 % 2 ^ 16 = ap (λ n. get_or n 1 0) bs in
       let b3 : x % 2 ^ 45 ≡ h / 1024 = ap (λ (n : ℕ). n % 2 ^ 45) (sym (div-one x)) ∙ ap (λ n. get_or n 2 0) bs in
@@ -535,6 +539,14 @@ module _ (w : Words) (l : Bool) (h z : ℕ) (f : Fit word_widths (word_list w)) 
       let v : Words = record { a = w.a; b = w.b; c = w.c; d = z } in
       let same : paged_fields (paged_read v (ending 3)) ≡ paged_fields e = rw above in
       relock_as 3 w.b w.c paged_read (laid_paged refl) f.1.0 f.1.1.0 paged_at (number_as (paged_read v (ending 3)) refl ∙ ap (pack paged_widths) same ∙ sym (number_as e refl)) t
+
+  -- either of them
+  pub relock_flag : 1 < w.a / 2 ^ 61 → w.a / 2 ^ 61 < 4 → Relocked
+  relock_flag above below = go (dec_lt (w.a / 2 ^ 61) 3)
+    where
+      go : Dec (w.a / 2 ^ 61 < 3) → Relocked
+      go (yes t) = relock_indirect (omega arith)
+      go (no t) = relock_paged (omega arith)
 
 -- and can be packed with nothing lost
 pub read-storable : (n : ℕ) → Laid (type_of n) → Storable (entry_of n)

@@ -1,36 +1,26 @@
 // Entries of the capability metadata table (Table 2): 32 bytes, byte 0 with the top bits.
-ghost use Rattle.std.specs.Prelude.{◌≡◌, [], ◌∷◌, ◌<◌, ◌^◌, ◌/◌, ◌%◌, length};
+ghost use Rattle.std.specs.Prelude.{MatchResult, true, false, ◌≡◌, [], ◌∷◌, ◌<◌, ◌^◌, ◌/◌, ◌%◌, length};
 ghost use Rattle.bits.specs.Fields.{pack, unpack};
 ghost use Rattle.bits.specs.Bytes.{bytes, number};
 ghost use Rattle.layout.specs.Entry.{bit, direct, direct_number, direct_of, end_fields, end_from, end_widths, entry_at, entry_bytes, entry_number, entry_of, Fits, free, freed, indirect, indirect_number, indirect_of, packable, paged, paged_number, paged_of, recounted, relocked, words_number, writable, written, zeros_width};
 
+use crate::fields::{low, replaced, three_fields, two_fields};
 use bits::word::{get, put};
 
-// Two to the nth: a remainder by it is the low n bits.
-const TWO_16: u64 = 1 << 16;
+// The types. A table that anyone wrote can hold 4 to 7 too, and `load` and `kind_of` promise the number
+// that stands there: so a type is a number, and no enum.
+pub const FREE: u8 = 0;
 
-const TWO_29: u64 = 1 << 29;
+pub const DIRECT: u8 = 1;
 
-const TWO_32: u64 = 1 << 32;
+pub const INDIRECT: u8 = 2;
 
-const TWO_35: u64 = 1 << 35;
-
-const TWO_39: u64 = 1 << 39;
-
-const TWO_45: u64 = 1 << 45;
-
-const TWO_50: u64 = 1 << 50;
-
-const TWO_54: u64 = 1 << 54;
-
-const TWO_55: u64 = 1 << 55;
-
-const TWO_61: u64 = 1 << 61;
+pub const PAGED: u8 = 3;
 
 // An entry: every field of every type. A field that its type does not have is zero.
 #[derive(Clone, Copy)]
 pub struct Entry {
-    // The type: 0 free, 1 direct, 2 indirect, 3 paged out.
+    // The type: FREE, DIRECT, INDIRECT, PAGED, or one that has no layout.
     pub kind: u8,
     pub base: u32,
     pub length: u32,
@@ -65,8 +55,7 @@ pub struct Words {
 }
 
 // The words that 32 bytes hold.
-pub fn read_words(part: &[u8]) -> Words
-    requires { length part.now ≡ 32 }
+pub fn read_words(part: &[u8; 32]) -> Words
     ensures { words_number result ≡ number 32 part.now }
 {
     Words {
@@ -77,7 +66,8 @@ pub fn read_words(part: &[u8]) -> Words
     }
 }
 
-// The words are stored as 32 bytes.
+// The words are stored as 32 bytes. (A slice: for an array lent out of the table, by `as_mut_array` and
+// `unwrap`, the proof of what the table then holds does not close.)
 pub fn write_words(part: &mut [u8], w: Words)
     requires { length part.old ≡ 32 }
     ensures { part.new ≡ bytes 32 (words_number w) }
@@ -88,17 +78,11 @@ pub fn write_words(part: &mut [u8], w: Words)
     put(&mut part[24..32], w.d);
 }
 
-fn bit_of(b: bool) -> u64
-    ensures { (result ≡ bit b) × (result < 2) }
-{
-    if b { 1 } else { 0 }
-}
-
 fn flag_bits(locked: bool, lockable: bool, cow: bool) -> u64
     ensures value { result ≡ pack (1 ∷ 1 ∷ 1 ∷ []) (bit locked ∷ bit lockable ∷ bit cow ∷ []) }
     ensures upper_bound { result < 8 }
 {
-    (bit_of(locked) * 2 + bit_of(lockable)) * 2 + bit_of(cow)
+    three_fields::<1, 1>(u64::from(locked), u64::from(lockable), u64::from(cow))
 }
 
 // The last word of an entry: the low ten bits of a field, and what all entries end with.
@@ -106,73 +90,36 @@ fn last_word(above: u64, e: Entry) -> u64
     requires { e.permissions < 8 }
     ensures { result ≡ pack (10 ∷ end_widths) (above % 1024 ∷ end_fields e) }
 {
-    let high = (above % 1024 << 3) + (e.permissions as u64);
     let flags = flag_bits(e.locked, e.lockable, e.cow);
-    let low = ((e.tag as u64) << 32) + (e.nonce as u64);
-    (((high << 3) + flags) << 48) + low
+    let high = three_fields::<3, 3>(above % 1024, u64::from(e.permissions), flags);
+    three_fields::<16, 32>(high, u64::from(e.tag), u64::from(e.nonce))
 }
 
-// The words of an entry, one by one: a field that runs over a word's end is cut in two.
-// Three bits, a field of 32 and the high 29 bits of a field: the first word, with the type and the
-// base, or the second of an entry that is paged out, with the length.
-fn field_word(above: u64, field: u32, high: u64) -> u64
-    requires { (above < 8) × (high < 2 ^ 29) }
-    ensures { result ≡ pack (3 ∷ 32 ∷ 29 ∷ []) (above ∷ field ∷ high ∷ []) }
-{
-    (above << 61) + ((field as u64) << 29) + high
-}
-
-// The low three bits of the length, the count and the high bits of a field of 55.
-fn middle_word(length: u32, count: u16, field: u64) -> u64
-    requires { field < 2 ^ 55 }
-    ensures { result ≡ pack (3 ∷ 16 ∷ 45 ∷ []) (length % 8 ∷ count ∷ field / 1024 ∷ []) }
-{
-    ((length as u64) % 8 << 61) + ((count as u64) << 45) + field / 1024
-}
-
-// The low ten bits of a field and the high bits of the user.
-fn user_word(above: u64, user: u64) -> u64
-    ensures { result ≡ pack (10 ∷ 54 ∷ []) (above % 1024 ∷ user / 1024 ∷ []) }
-{
-    (above % 1024 << 54) + user / 1024
-}
-
+// The words of an entry, by its type: a field that runs over a word's end is cut in two.
 fn direct_words(e: Entry) -> Words
     requires { Fits e }
     ensures { words_number result ≡ direct_number e }
 {
+    let length = u64::from(e.length);
     Words {
-        a: field_word(1, e.base, (e.length as u64) / 8),
-        b: middle_word(e.length, e.count, e.holder),
-        c: user_word(e.holder, e.user),
+        a: three_fields::<32, 29>(DIRECT as u64, u64::from(e.base), length / 8),
+        b: three_fields::<16, 45>(length % 8, u64::from(e.count), e.holder / 1024),
+        c: two_fields::<54>(e.holder % 1024, e.user / 1024),
         d: last_word(e.user, e),
     }
-}
-
-// The low bits of the parent token and the high bits of the length.
-fn indirect_b(parent: u64, length: u32) -> u64
-    ensures { result ≡ pack (35 ∷ 29 ∷ []) (parent % 2 ^ 35 ∷ length / 8 ∷ []) }
-{
-    (parent % TWO_35 << 29) + (length as u64) / 8
 }
 
 fn indirect_words(e: Entry) -> Words
     requires { Fits e }
     ensures { words_number result ≡ indirect_number e }
 {
+    let length = u64::from(e.length);
     Words {
-        a: field_word(2, e.base, e.parent >> 35),
-        b: indirect_b(e.parent, e.length),
-        c: middle_word(e.length, e.count, e.zeros),
+        a: three_fields::<32, 29>(INDIRECT as u64, u64::from(e.base), e.parent >> 35),
+        b: two_fields::<29>(low::<35>(e.parent), length / 8),
+        c: three_fields::<16, 45>(length % 8, u64::from(e.count), e.zeros / 1024),
         d: last_word(e.zeros, e),
     }
-}
-
-// The type and the high bits of the page-file number.
-fn paged_a(page: u64) -> u64
-    ensures { result ≡ pack (3 ∷ 61 ∷ []) (3 ∷ page / 8 ∷ []) }
-{
-    (3 << 61) + page / 8
 }
 
 fn paged_words(e: Entry) -> Words
@@ -180,9 +127,9 @@ fn paged_words(e: Entry) -> Words
     ensures { words_number result ≡ paged_number e }
 {
     Words {
-        a: paged_a(e.page),
-        b: field_word(e.page % 8, e.length, e.zeros / 1024),
-        c: user_word(e.zeros, e.user),
+        a: two_fields::<61>(PAGED as u64, e.page / 8),
+        b: three_fields::<32, 29>(e.page % 8, u64::from(e.length), e.zeros / 1024),
+        c: two_fields::<54>(e.zeros % 1024, e.user / 1024),
         d: last_word(e.user, e),
     }
 }
@@ -196,20 +143,20 @@ pub fn free_words(tag: u16) -> Words
         a: 0,
         b: 0,
         c: 0,
-        d: (tag as u64) << 32,
+        d: u64::from(tag) << 32,
     }
 }
 
-// The words of an entry. A type above 3 has no layout here and gives those of a free entry.
+// The words of an entry. A type above 3 has no layout here and gives those of a free entry. (That the
+// fields fit is no invariant of `Entry`: `write` takes any, and promises to refuse one that does not fit.)
 fn words_of(e: Entry) -> Words
     requires { Fits e }
     ensures { words_number result ≡ entry_number e }
 {
-    let kind = e.kind;
-    match kind {
-        1 => direct_words(e),
-        2 => indirect_words(e),
-        3 => paged_words(e),
+    match e.kind {
+        DIRECT => direct_words(e),
+        INDIRECT => indirect_words(e),
+        PAGED => paged_words(e),
         _ => free_words(e.tag),
     }
 }
@@ -228,12 +175,12 @@ fn end_of(kind: u8, d: u64) -> Entry
         parent: 0,
         page: 0,
         zeros: 0,
-        permissions: ((d >> 51) % 8) as u8,
+        permissions: low::<3>(d >> 51) as u8,
         locked: (d >> 50) % 2 == 1,
         lockable: (d >> 49) % 2 == 1,
         cow: (d >> 48) % 2 == 1,
-        tag: ((d >> 32) % TWO_16) as u16,
-        nonce: (d % TWO_32) as u32,
+        tag: low::<16>(d >> 32) as u16,
+        nonce: low::<32>(d) as u32,
     }
 }
 
@@ -242,17 +189,14 @@ fn end_of(kind: u8, d: u64) -> Entry
 fn direct_of(w: Words) -> Entry
     ensures { result ≡ direct_of (words_number w) }
 {
-    let a = w.a;
-    let b = w.b;
-    let c = w.c;
-    let d = w.d;
-    let mut e = end_of(1, d);
-    e.base = ((a >> 29) % TWO_32) as u32;
-    e.length = (a % TWO_29 * 8 + (b >> 61)) as u32;
-    e.count = ((b >> 45) % TWO_16) as u16;
-    e.holder = b % TWO_45 * 1024 + (c >> 54);
-    e.user = c % TWO_54 * 1024 + (d >> 54);
-    e
+    Entry {
+        base: low::<32>(w.a >> 29) as u32,
+        length: (low::<29>(w.a) * 8 + (w.b >> 61)) as u32,
+        count: low::<16>(w.b >> 45) as u16,
+        holder: low::<45>(w.b) * 1024 + (w.c >> 54),
+        user: low::<54>(w.c) * 1024 + (w.d >> 54),
+        ..end_of(DIRECT, w.d)
+    }
 }
 
 // The indirect entry that four words hold.
@@ -260,17 +204,14 @@ fn direct_of(w: Words) -> Entry
 fn indirect_of(w: Words) -> Entry
     ensures { result ≡ indirect_of (words_number w) }
 {
-    let a = w.a;
-    let b = w.b;
-    let c = w.c;
-    let d = w.d;
-    let mut e = end_of(2, d);
-    e.base = ((a >> 29) % TWO_32) as u32;
-    e.parent = a % TWO_29 * TWO_35 + (b >> 29);
-    e.length = (b % TWO_29 * 8 + (c >> 61)) as u32;
-    e.count = ((c >> 45) % TWO_16) as u16;
-    e.zeros = c % TWO_45 * 1024 + (d >> 54);
-    e
+    Entry {
+        base: low::<32>(w.a >> 29) as u32,
+        parent: (low::<29>(w.a) << 35) + (w.b >> 29),
+        length: (low::<29>(w.b) * 8 + (w.c >> 61)) as u32,
+        count: low::<16>(w.c >> 45) as u16,
+        zeros: low::<45>(w.c) * 1024 + (w.d >> 54),
+        ..end_of(INDIRECT, w.d)
+    }
 }
 
 // The entry that is paged out that four words hold.
@@ -278,28 +219,33 @@ fn indirect_of(w: Words) -> Entry
 fn paged_of(w: Words) -> Entry
     ensures { result ≡ paged_of (words_number w) }
 {
-    let a = w.a;
-    let b = w.b;
-    let c = w.c;
-    let d = w.d;
-    let mut e = end_of(3, d);
-    e.page = a % TWO_61 * 8 + (b >> 61);
-    e.length = ((b >> 29) % TWO_32) as u32;
-    e.zeros = b % TWO_29 * 1024 + (c >> 54);
-    e.user = c % TWO_54 * 1024 + (d >> 54);
-    e
+    Entry {
+        page: low::<61>(w.a) * 8 + (w.b >> 61),
+        length: low::<32>(w.b >> 29) as u32,
+        zeros: low::<29>(w.b) * 1024 + (w.c >> 54),
+        user: low::<54>(w.c) * 1024 + (w.d >> 54),
+        ..end_of(PAGED, w.d)
+    }
+}
+
+// The type, which stands in the same place in all.
+fn kind_in(w: Words) -> u8
+    ensures { result ≡ w.a / 2 ^ 61 }
+{
+    (w.a >> 61) as u8
 }
 
 // The entry that four words hold.
-fn entry_of(w: Words) -> Entry
-    ensures { result ≡ entry_of (words_number w) }
-{
-    let kind = w.a >> 61;
-    match kind {
-        1 => direct_of(w),
-        2 => indirect_of(w),
-        3 => paged_of(w),
-        _ => end_of(kind as u8, w.d),
+impl From<Words> for Entry {
+    ghost from_gives = { λ w e. e ≡ entry_of (words_number w) };
+
+    fn from(w: Words) -> Entry {
+        match kind_in(w) {
+            DIRECT => direct_of(w),
+            INDIRECT => indirect_of(w),
+            PAGED => paged_of(w),
+            kind => end_of(kind, w.d),
+        }
     }
 }
 
@@ -308,13 +254,13 @@ fn entry_of(w: Words) -> Entry
 pub fn kind_of(w: Words) -> u8
     ensures { result ≡ (entry_of (words_number w)).kind }
 {
-    (w.a >> 61) as u8
+    kind_in(w)
 }
 
 pub fn tag_of(w: Words) -> u16
     ensures { result ≡ (entry_of (words_number w)).tag }
 {
-    ((w.d >> 32) % TWO_16) as u16
+    low::<16>(w.d >> 32) as u16
 }
 
 // The others go by the type.
@@ -322,11 +268,8 @@ pub fn tag_of(w: Words) -> u16
 pub fn base_of(w: Words) -> u32
     ensures { result ≡ (entry_of (words_number w)).base }
 {
-    let kind = w.a >> 61;
-    let base = ((w.a >> 29) % TWO_32) as u32;
-    match kind {
-        1 => base,
-        2 => base,
+    match kind_in(w) {
+        DIRECT | INDIRECT => low::<32>(w.a >> 29) as u32,
         _ => 0,
     }
 }
@@ -334,19 +277,11 @@ pub fn base_of(w: Words) -> u32
 pub fn count_of(w: Words) -> u16
     ensures { result ≡ (entry_of (words_number w)).count }
 {
-    let kind = w.a >> 61;
-    match kind {
-        1 => ((w.b >> 45) % TWO_16) as u16,
-        2 => ((w.c >> 45) % TWO_16) as u16,
+    match kind_in(w) {
+        DIRECT => low::<16>(w.b >> 45) as u16,
+        INDIRECT => low::<16>(w.c >> 45) as u16,
         _ => 0,
     }
-}
-
-// A word with another count: 3 bits stand above a count, 45 below.
-fn with_count(word: u64, count: u16) -> u64
-    ensures { result ≡ pack (3 ∷ 16 ∷ 45 ∷ []) (word / 2 ^ 61 ∷ count ∷ word % 2 ^ 45 ∷ []) }
-{
-    ((word >> 61) << 61) + ((count as u64) << 45) + word % TWO_45
 }
 
 // The words of the same entry with another count. Only types 1 and 2 have one: an entry that is paged
@@ -354,38 +289,25 @@ fn with_count(word: u64, count: u16) -> u64
 pub fn recounted(w: Words, count: u16) -> Words
     ensures { words_number result ≡ entry_number (recounted (entry_of (words_number w)) count) }
 {
-    let kind = w.a >> 61;
-    match kind {
-        1 => Words {
-            a: w.a,
-            b: with_count(w.b, count),
-            c: w.c,
-            d: w.d,
+    match kind_in(w) {
+        DIRECT => Words {
+            b: replaced::<16, 45>(w.b, u64::from(count)),
+            ..w
         },
-        2 => Words {
-            a: w.a,
-            b: w.b,
-            c: with_count(w.c, count),
-            d: w.d,
+        INDIRECT => Words {
+            c: replaced::<16, 45>(w.c, u64::from(count)),
+            ..w
         },
-        3 => w,
+        PAGED => w,
         _ => free_words(tag_of(w)),
     }
 }
 
-// The last word with another Locked, which stands in bit 50.
+// The last word with another Locked, one bit above 50 others.
 fn with_locked(word: u64, locked: bool) -> u64
     ensures { result ≡ pack (13 ∷ 1 ∷ 50 ∷ []) (word / 2 ^ 51 ∷ bit locked ∷ word % 2 ^ 50 ∷ []) }
 {
-    ((word >> 51) << 51) + (bit_of(locked) << 50) + word % TWO_50
-}
-
-// A direct entry's second word with another lock holder: its high 45 bits.
-fn with_holder(word: u64, holder: u64) -> u64
-    requires { holder < 2 ^ 55 }
-    ensures { result ≡ pack (3 ∷ 16 ∷ 45 ∷ []) (word / 2 ^ 61 ∷ word / 2 ^ 45 % 2 ^ 16 ∷ holder / 1024 ∷ []) }
-{
-    ((word >> 45) << 45) + holder / 1024
+    replaced::<1, 50>(word, u64::from(locked))
 }
 
 // The words of the same entry with another lock. Only type 1 has a holder.
@@ -393,84 +315,80 @@ pub fn relocked(w: Words, locked: bool, holder: u64) -> Words
     requires { holder < 2 ^ 55 }
     ensures { words_number result ≡ entry_number (relocked (entry_of (words_number w)) locked holder) }
 {
-    let kind = w.a >> 61;
-    match kind {
-        1 => Words {
-            a: w.a,
-            b: with_holder(w.b, holder),
-            c: user_word(holder, w.c % TWO_54 * 1024),
+    match kind_in(w) {
+        DIRECT => Words {
+            b: two_fields::<45>(w.b >> 45, holder / 1024),
+            c: two_fields::<54>(holder % 1024, low::<54>(w.c)),
             d: with_locked(w.d, locked),
+            ..w
         },
-        2 => Words {
-            a: w.a,
-            b: w.b,
-            c: w.c,
+        INDIRECT | PAGED => Words {
             d: with_locked(w.d, locked),
-        },
-        3 => Words {
-            a: w.a,
-            b: w.b,
-            c: w.c,
-            d: with_locked(w.d, locked),
+            ..w
         },
         _ => free_words(tag_of(w)),
     }
 }
 
 // The entry that 32 bytes hold.
-pub fn load(part: &[u8]) -> Entry
-    requires { length part.now ≡ 32 }
+pub fn load(part: &[u8; 32]) -> Entry
     ensures { result ≡ entry_at part.now }
 {
-    entry_of(read_words(part))
-}
-
-// The entry is stored as 32 bytes.
-fn store(part: &mut [u8], e: Entry)
-    requires part_len { length part.old ≡ 32 }
-    requires fits { Fits e }
-    ensures { part.new ≡ entry_bytes e }
-{
-    write_words(part, words_of(e));
+    Entry::from(read_words(part))
 }
 
 // What the field of zeros stays below.
 fn zeros_end(kind: u8) -> u64
     ensures { result ≡ 2 ^ zeros_width kind }
 {
-    if kind == 3 { TWO_39 } else { TWO_55 }
+    if kind == PAGED { 1 << 39 } else { 1 << 55 }
 }
 
 fn packable(e: Entry) -> bool
     ensures { result ≡ packable e }
 {
-    (e.kind < 4) & (e.permissions < 8) & (e.holder < TWO_55) & (e.zeros < zeros_end(e.kind))
+    (e.kind <= PAGED) & (e.permissions < 8) & (e.holder < 1 << 55) & (e.zeros < zeros_end(e.kind))
 }
 
-// The entry is written to a part of 32 bytes if its type has a layout and its fields fit; else
-// the part keeps its bytes. Says whether it was written.
-#[tactic(auto, using(crate::proofs::EntryLaws::packable_fits), unfolding(crate::specs::Entry::written))]
+// An entry that four words cannot hold: its type has no layout, or one of its fields does not fit.
+#[derive(Clone, Copy, Debug, PartialEq, Eq)]
+pub struct Misfit;
+
+impl TryFrom<Entry> for Words {
+    type Error = Misfit;
+
+    ghost try_from_gives = { λ e r. MatchResult r (λ w. (packable e ≡ true) × (words_number w ≡ entry_number e)) (λ _. packable e ≡ false) };
+
+    fn try_from(e: Entry) -> Result<Words, Misfit> {
+        if !packable(e) {
+            return Err(Misfit);
+        }
+        Ok(words_of(e))
+    }
+}
+
+// The entry is written to a part of 32 bytes if four words hold it; else the part keeps its bytes.
+// Says whether it was written (a bool, by the promise `value`).
+#[tactic(auto, unfolding(crate::specs::Entry::written))]
 pub fn write(part: &mut [u8], e: Entry) -> bool
     ensures value { result ≡ writable part.old e }
     ensures part_after { part.new ≡ written part.old e }
 {
-    if part.len() == 32 {
-        if packable(e) {
-            store(part, e);
-            true
-        } else {
-            false
-        }
-    } else {
-        false
+    if part.len() != 32 {
+        return false;
     }
+    let Ok(words) = Words::try_from(e) else {
+        return false;
+    };
+    write_words(part, words);
+    true
 }
 
 // A free entry that keeps no tag.
 fn free() -> Entry
     ensures { result ≡ free }
 {
-    end_of(0, 0)
+    end_of(FREE, 0)
 }
 
 // A direct entry as it is issued: count 0, unlocked.
@@ -485,35 +403,38 @@ pub fn direct(
 ) -> Entry
     ensures { result ≡ direct base length user permissions lockable tag nonce }
 {
-    let mut e = free();
-    e.kind = 1;
-    e.base = base;
-    e.length = length;
-    e.user = user;
-    e.permissions = permissions;
-    e.lockable = lockable;
-    e.tag = tag;
-    e.nonce = nonce;
-    e
+    Entry {
+        kind: DIRECT,
+        base,
+        length,
+        user,
+        permissions,
+        lockable,
+        tag,
+        nonce,
+        ..free()
+    }
 }
 
 // An indirect entry as it is issued: count 1.
 fn indirect(base: u32, length: u32, parent: u64, permissions: u8, tag: u16, nonce: u32) -> Entry
     ensures { result ≡ indirect base length parent permissions tag nonce }
 {
-    let mut e = free();
-    e.kind = 2;
-    e.base = base;
-    e.length = length;
-    e.count = 1;
-    e.parent = parent;
-    e.permissions = permissions;
-    e.tag = tag;
-    e.nonce = nonce;
-    e
+    Entry {
+        kind: INDIRECT,
+        base,
+        length,
+        count: 1,
+        parent,
+        permissions,
+        tag,
+        nonce,
+        ..free()
+    }
 }
 
-// An entry that is paged out, as it is issued: unlocked.
+// An entry that is paged out, as it is issued: unlocked. It has a page-file number where a direct one has a
+// base, so that one function of both would take a field that one of them does not have.
 fn paged(
     page: u64,
     length: u32,
@@ -525,20 +446,22 @@ fn paged(
 ) -> Entry
     ensures { result ≡ paged page length user permissions lockable tag nonce }
 {
-    let mut e = free();
-    e.kind = 3;
-    e.page = page;
-    e.length = length;
-    e.user = user;
-    e.permissions = permissions;
-    e.lockable = lockable;
-    e.tag = tag;
-    e.nonce = nonce;
-    e
+    Entry {
+        kind: PAGED,
+        page,
+        length,
+        user,
+        permissions,
+        lockable,
+        tag,
+        nonce,
+        ..free()
+    }
 }
 
 // The words of a direct entry as it is issued, with tag and nonce 0: from here on an issue handles
-// four words, and no entry with all its fields.
+// four words, and no entry with all its fields. (Permissions are a plain number, as in `Entry`, whose
+// fields the machine's definitions read; so each issue asks that they are below 8.)
 pub fn issued_direct(base: u32, length: u32, user: u64, permissions: u8, lockable: bool) -> Words
     requires { permissions < 8 }
     ensures { entry_of (words_number result) ≡ direct base length user permissions lockable 0 0 }

@@ -8,8 +8,7 @@ ghost use Rattle.interface.specs.Exported as interface;
 ghost use Rattle.interface.specs.Exported.{exported};
 ghost use Rattle.interface.specs.Meanings.{left};
 
-use calls::call::{carry_out, leased_asked_of, refuse};
-use interface::request::Asked;
+use calls::call::{asked_of, carry_out, refuse};
 
 // Serves the request, whatever the slices hold, and returns its refusal (0 granted). Accesses are
 // judged by the leases, and have their minute in word 2.
@@ -25,9 +24,8 @@ pub extern "C" fn northbridge_serve_leased(
 ) -> u64
     ensures { left result state.new table.new memory.new buffer.new answer.new ≡ exported request.now state.old table.old memory.old buffer.old answer.old (interface.with_leases leases.now) }
 {
-    let asked = leased_asked_of(request, state, answer, leases);
-    match asked {
-        Asked::Known(known) => carry_out(known, state, table, memory, buffer, answer, leases),
-        Asked::Unknown => refuse(answer),
-    }
+    let Some(known) = asked_of(request, state, answer, Some(leases)) else {
+        return refuse(answer);
+    };
+    carry_out(known, state, table, memory, buffer, answer, leases)
 }

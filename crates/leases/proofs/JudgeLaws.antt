@@ -1,12 +1,15 @@
 -- Leases one after the other: what is known of the first ones, with one more.
 -- Assumes nothing.
-use mathlib.Core.Path.{◌≡◌, refl, sym, ◌∙◌}
+use mathlib.Core.Path.{◌≡◌, refl, sym, ◌∙◌, ap}
 use mathlib.Core.Bool.{Bool, true, false, not, ◌&&◌, ◌||◌, cond}
 use mathlib.Core.List.{List, [], ◌∷◌, ◌++◌}
-use Prim.Native.Nat.{ℕ, ◌+◌, ◌/◌}
+use Prim.Native.Nat.{ℕ, ◌+◌, ◌*◌, ◌/◌, ◌<◌}
 use native.Mathlib.Numerals.{add-one}
 use native.Mathlib.Omega.{arith}
-use lib.ListN.{length}
+use lib.ListN.{drop, get_or, length, take}
+use Rattle.std.specs.Simd.{first_chunks}
+use Rattle.std.proofs.lemmas.Simd.{get_or-chunk}
+use Rattle.bits.proofs.PartLaws.{chunk_at}
 use Rattle.leases.specs.Lease.{admits, all_sound, covers, every, first_leases, is_for, is_open, is_sound, judged, lease_at, leases_of, some}
 use Rattle.leases.specs.declared.lease.Window.TheVariants.{Closed, Open, Unsound}
 use Rattle.leases.specs.declared.lease.Lease.{Lease}
@@ -34,6 +37,25 @@ some_more p (k ∷ ls) l = go (p k) (some_more p ls l)
     go : (x : Bool) → some p (ls ++ (l ∷ [])) ≡ (some p ls || p l) → (x || some p (ls ++ (l ∷ []))) ≡ (x || some p ls || p l)
     go true h = refl
     go false h = h
+
+-- part i of a table that is cut into parts of eight bytes holds lease i
+pub lease_chunk : (t : List ℕ) (i : ℕ) {l : Lease} {parts : List (List ℕ)} → parts ≡ first_chunks 8 (length t / 8) t → i < length t / 8 → l ≡ lease_at (get_or parts i []) 0 → l ≡ lease_at t i
+unfolding lease_at
+lease_chunk t i p h e =
+    rw (p, chunk_at (length t / 8) i t h) at e
+    ∙ rw (
+      byte 0 (2 * (4 * i)) (omega arith) (omega arith),
+      byte 1 (2 * (4 * i) + 1) (omega arith) (omega arith),
+      byte 2 (2 * (4 * i + 1)) (omega arith) (omega arith),
+      byte 3 (2 * (4 * i + 1) + 1) (omega arith) (omega arith),
+      byte 4 (2 * (4 * i + 2)) (omega arith) (omega arith),
+      byte 5 (2 * (4 * i + 2) + 1) (omega arith) (omega arith),
+      byte 6 (2 * (4 * i + 3)) (omega arith) (omega arith),
+      byte 7 (2 * (4 * i + 3) + 1) (omega arith) (omega arith),
+    )
+  where
+    byte : (j k : ℕ) → j < 8 → k ≡ 8 * i + j → get_or (take 8 (drop (8 * i) t)) j 0 ≡ get_or t k 0
+    byte j k l e = get_or-chunk (8 * i) 8 t j 0 l ∙ ap (λ n. get_or t n 0) (sym e)
 
 -- what the first n leases come to for a token at a minute
 pub record Seen (t : List ℕ) (number tag minute n : ℕ) (s h a : Bool) : Type 0 where

@@ -1,5 +1,5 @@
 // A table of leases, judged for a token at a minute in one pass.
-ghost use Rattle.std.specs.Prelude.{◌≡◌, cond, ◌+◌, ◌*◌, ◌≤◌, length};
+ghost use Rattle.std.specs.Prelude.{◌≡◌, cond};
 ghost use Rattle.leases.specs.declared.lease.Window.TheVariants as judgement;
 ghost use Rattle.leases.specs.Lease.{covers, fit, is_for, is_sound, judged, lease_at, leases_of, sixteen};
 
@@ -38,61 +38,53 @@ pub fn fits(leases: &[u8]) -> bool
     (leases.len() % LEASE_SIZE == 0) & (leases.len() <= LEASES_MOST)
 }
 
-// Two bytes as one number.
-fn joined(low: u8, high: u8) -> u64
-    ensures { result ≡ low + 256 * high }
+// A number of 16 bits, the low byte first.
+fn sixteen(bytes: [u8; 2]) -> u64
+    ensures { result ≡ sixteen bytes 0 }
 {
-    (low as u64) + 256 * (high as u64)
+    u64::from(u16::from_le_bytes(bytes))
 }
 
-// The number of 16 bits at place i, low byte first.
-fn number_at(leases: &[u8], i: usize) -> u64
-    requires { 2 * i + 2 ≤ length leases.now }
-    ensures { result ≡ sixteen leases.now i }
-{
-    let start = 2 * i;
-    joined(leases[start], leases[start + 1])
-}
-
-// Lease i.
-#[tactic(auto, unfolding(crate::specs::Lease::lease_at))]
-fn lease_at(leases: &[u8], i: usize) -> Lease
-    requires { 8 * i + 8 ≤ length leases.now }
-    ensures { result ≡ lease_at leases.now i }
-{
-    let start = 4 * i;
-    Lease {
-        number: number_at(leases, start),
-        tag: number_at(leases, start + 1),
-        opening: number_at(leases, start + 2),
-        closing: number_at(leases, start + 3),
+impl Lease {
+    // The lease that eight bytes hold. They stay behind the reference: taken as a value they are one load and shifts, which
+    // takes longer.
+    #[tactic(auto, unfolding(crate::specs::Lease::lease_at))]
+    fn read(bytes: &[u8; LEASE_SIZE]) -> Lease
+        ensures { result ≡ lease_at bytes.now 0 }
+    {
+        Lease {
+            number: sixteen([bytes[0], bytes[1]]),
+            tag: sixteen([bytes[2], bytes[3]]),
+            opening: sixteen([bytes[4], bytes[5]]),
+            closing: sixteen([bytes[6], bytes[7]]),
+        }
     }
-}
 
-// Its minutes differ and lie in the week.
-fn is_sound(l: Lease) -> bool
-    ensures { result ≡ is_sound l }
-{
-    (l.opening != l.closing) & (l.opening < WEEK) & (l.closing < WEEK)
-}
-
-// The minute lies in its window, which runs over the week's end if it opens later than it closes.
-#[tactic(auto, unfolding(crate::specs::Lease::covers))]
-fn covers(l: Lease, minute: u64) -> bool
-    ensures { result ≡ covers l minute }
-{
-    if l.closing < l.opening {
-        (l.opening <= minute) | (minute < l.closing)
-    } else {
-        (l.opening <= minute) & (minute < l.closing)
+    // Its minutes differ and lie in the week.
+    fn is_sound(self) -> bool
+        ensures { result ≡ is_sound self }
+    {
+        (self.opening != self.closing) & (self.opening < WEEK) & (self.closing < WEEK)
     }
-}
 
-// It is for the token of this number and tag.
-fn is_for(l: Lease, number: u64, tag: u64) -> bool
-    ensures { result ≡ is_for number tag l }
-{
-    (l.number == number) & (l.tag == tag)
+    // The minute lies in its window, which runs over the week's end if it opens later than it closes.
+    #[tactic(auto, unfolding(crate::specs::Lease::covers))]
+    fn covers(self, minute: u64) -> bool
+        ensures { result ≡ covers self minute }
+    {
+        if self.closing < self.opening {
+            (self.opening <= minute) | (minute < self.closing)
+        } else {
+            (self.opening <= minute) & (minute < self.closing)
+        }
+    }
+
+    // It is for the token of this number and tag.
+    fn is_for(self, number: u64, tag: u64) -> bool
+        ensures { result ≡ is_for number tag self }
+    {
+        (self.number == number) & (self.tag == tag)
+    }
 }
 
 // What is told of them: unsound leases before a closed window.
@@ -113,19 +105,17 @@ fn told(sound: bool, admitted: bool) -> Window
 pub fn judge_leases(leases: &[u8], number: u64, tag: u64, minute: u64) -> Window
     ensures { result ≡ judged (leases_of leases.now) number tag minute }
 {
-    let count = leases.len() / LEASE_SIZE;
+    let (all, _) = leases.as_chunks::<LEASE_SIZE>();
     let mut sound = true;
     let mut held = false;
     let mut admitted = false;
-    let mut i = 0;
-    while i < count {
-        let l = lease_at(leases, i);
-        sound = sound & is_sound(l);
-        if is_for(l, number, tag) {
+    for bytes in all {
+        let lease = Lease::read(bytes);
+        sound &= lease.is_sound();
+        if lease.is_for(number, tag) {
             held = true;
-            admitted = admitted | covers(l, minute);
+            admitted |= lease.covers(minute);
         }
-        i += 1;
     }
     told(sound, !held | admitted)
 }

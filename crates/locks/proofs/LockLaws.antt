@@ -1,9 +1,10 @@
 -- Lock and unlock: their checks, and what they leave.
 -- Assumes nothing.
-use mathlib.Core.Path.{◌≡◌, refl, ◌∙◌}
+use mathlib.Core.Path.{◌≡◌, refl, sym, ◌∙◌}
 use mathlib.Core.Bool.{Bool, true, false, not, ◌&&◌, cond}
 use mathlib.Core.List.{List, [], ◌∷◌, ◌++◌}
 use Prim.Native.Nat.{ℕ, ◌^◌, ◌<◌}
+use Rattle.std.specs.Prelude.{Ok}
 use lib.Dec.{eqb, ltb}
 use borrow.Author.Tests.{ltb-true}
 use Rattle.tokens.specs.Token.{named}
@@ -23,7 +24,7 @@ use Rattle.machine.proofs.Decided.{AllTrue}
 use Rattle.table.specs.States.{state_as}
 use Rattle.table.specs.declared.state.StateWords.{StateWords}
 use Rattle.rulings.specs.Rulings.{first_on, granting, handed, plainly, Ruling, verdict_on}
-use Rattle.rulings.specs.declared.reply.Outcome.{Outcome}
+use Rattle.rulings.specs.declared.reply.Granted.{Granted}
 use Rattle.rulings.proofs.AllotLaws.{request-limits}
 use Rattle.rulings.proofs.RulingLaws.{first_pass, first_request, pass-true, rest_alone}
 use Rattle.locks.specs.Locks.{relocking}
@@ -39,6 +40,10 @@ module _ (m : ℕ) (s : State) (t : List ℕ) (k u : ℕ) where
   pub lock-request : (n : Named) → n ≡ named k → (settings_hold m s t && ltb u (2 ^ 55) && not (eqb u 0) && eqb n.offset 0) ≡ request_holds m s t (lock k u) []
   unfolding settings_hold request_holds
   lock-request n is = rw is
+
+  -- and as its test says, with r for the settings
+  pub lock_asked : (n : Named) (r b : Bool) → n ≡ named k → r ≡ settings_hold m s t → (r && ltb u (2 ^ 55) && not (eqb u 0) && eqb n.offset 0) ≡ b → request_holds m s t (lock k u) [] ≡ b
+  lock_asked n r b is held h = sym (lock-request n is) ∙ rw held at h
 
   -- it stops both, or the token decides
   pub lock-stop : request_holds m s t (lock k u) [] ≡ false → first_on m s t (lock k u) [] ≡ stop at_request
@@ -84,7 +89,7 @@ module _ (m : ℕ) (s : State) (t : List ℕ) (k u : ℕ) where
     unlock-grants x h = h ∙ rw line
 
 -- what is handed back, where the owner's entry is read as e
-pub relock_left : (s : StateWords) (t : List ℕ) (o : ℕ) (locked : Bool) (h : ℕ) (e : Entry) (r : Outcome) (t' : List ℕ)
-    → e ≡ at t o → t' ≡ put t o (relocked e locked h) → r ≡ plainly s 0 → handed r t' ≡ relocking (state_as s) t o locked h
+pub relock_left : (s : StateWords) (t : List ℕ) (o : ℕ) (locked : Bool) (h : ℕ) (e : Entry) (r : Granted) (t' : List ℕ)
+    → e ≡ at t o → t' ≡ put t o (relocked e locked h) → r ≡ plainly 0 → handed s t' (Ok r) ≡ relocking (state_as s) t o locked h
 unfolding relocking
 relock_left s t o locked h e r t' there now done = rw (done, now, there)

@@ -1,80 +1,51 @@
 // Merge joins two neighbours into one segment.
-ghost use Rattle.std.specs.Prelude.{◌≡◌, List, [], ℕ, ◌+◌, ◌<◌, ◌^◌, length};
+ghost use Rattle.std.specs.Prelude.{◌≡◌, List, [], ℕ, ◌+◌, ◌<◌, ◌^◌, Ok};
 ghost use Rattle.layout.specs.Entry.{entry_of, words_number};
-ghost use Rattle.machine.specs.Operations.{grant, merged_of, number_of};
-ghost use Rattle.machine.specs.Parts.{at, State};
+ghost use Rattle.machine.specs.Operations.{grant, merged_of, named_entry};
+ghost use Rattle.machine.specs.Parts.{State};
 ghost use Rattle.machine.specs.Requests as request;
-ghost use Rattle.machine.specs.Steps.{pass};
+ghost use Rattle.checks.specs.Refusals.{checked_as};
 ghost use Rattle.table.specs.States.{state_as};
-ghost use Rattle.tokens.specs.Token as tokens;
-ghost use Rattle.rulings.specs.Rulings.{checked_as, ended, front_on, handed, inner_on, ruled, tokens_on};
+ghost use Rattle.rulings.specs.Asked.{merge_as};
+ghost use Rattle.rulings.specs.Rulings.{ended, front_on, handed, inner_on, ruled};
 ghost use Rattle.rulings.specs.Served.{ServedAlone};
 ghost use Rattle.merges.specs.Neighbours.{Pairs};
 
 use altering::writes::vacate;
-use checks::reach::{Reached, opens, reach_near};
+use checks::reach::reach_open;
 use checks::refusal::Refusal;
 use checks::settings::settings;
 use entering::nonces::find_anew;
 use issuing::writes::reissue;
-use layout::entry::{Entry, Words, issued_direct};
-use rulings::reply::{Checked, Outcome, giving, refused};
+use layout::entry::{DIRECT, Entry, Words, issued_direct};
+use rulings::reply::{Granted, giving};
+use rulings::request::Merge;
 use table::entries::entry_at;
 use table::state::StateWords;
-use tokens::token::{Named, read};
+use tokens::read::Token;
 
-// What the checks of a merge come to: where it stops, or the numbers of both entries.
+// The numbers of the entries that a merge joins.
 #[derive(Clone, Copy)]
-pub enum Pair {
-    Stop(Refusal),
-    Numbers(usize, usize),
+pub struct Pair {
+    pub first: usize,
+    pub second: usize,
 }
 
-// Places 2 to 5 for one token, then for the other. The tokens are read as one and two.
-fn reach_both(
-    table: &[u8],
-    memory: u64,
-    first: u64,
-    second: u64,
-    one: Named,
-    two: Named,
-    task: u64,
-) -> Checked
-    requires { (one ≡ tokens.named first) × (two ≡ tokens.named second) }
-    ensures { (s : State) (c : ℕ) → checked_as result ≡ tokens_on memory s table.now (request.merge first second task c) [] }
+// Places 6 to 10, for the entries d and e that the tokens name: e starts where d ends.
+fn neighbours(d: Entry, e: Entry) -> Result<(), Refusal>
+    ensures { (m : ℕ) (s : State) (t : List ℕ) (i j u c : ℕ) → d ≡ named_entry t i → e ≡ named_entry t j → checked_as result ≡ inner_on m s t (request.merge i j u c) [] }
 {
-    let near = reach_near(table, memory, first, one);
-    let a = opens(table, memory, first, task, near);
-    match a {
-        Reached::Stop(why) => Checked::Stop(why),
-        Reached::Owner(_) => {
-            let next = reach_near(table, memory, second, two);
-            let b = opens(table, memory, second, task, next);
-            match b {
-                Reached::Stop(why) => Checked::Stop(why),
-                Reached::Owner(_) => Checked::Pass,
-            }
-        }
-    }
-}
-
-// Places 6 to 10, for d of number n and e of number k, whatever tokens name them: e starts where d
-// ends.
-fn neighbours(d: Entry, e: Entry, n: usize, k: usize) -> Pair
-    ensures { (m : ℕ) (s : State) (t : List ℕ) (i j u c : ℕ) → n ≡ number_of i → k ≡ number_of j → d ≡ at t n → e ≡ at t k → Pairs i j result (inner_on m s t (request.merge i j u c) []) }
-{
-    if !((d.kind == 1) & (e.kind == 1)) {
-        return Pair::Stop(Refusal::Kind);
+    if (d.kind != DIRECT) | (e.kind != DIRECT) {
+        return Err(Refusal::Kind);
     }
     let end = (d.base as u64) + (d.length as u64);
     if (e.base as u64) != end {
-        return Pair::Stop(Refusal::Bounds);
+        return Err(Refusal::Bounds);
     }
-    if !d.locked & !e.locked & (d.count == 0) & (e.count == 0) {
-        Pair::Numbers(n, k)
-    } else {
-        Pair::Stop(Refusal::Standing)
+    if d.locked | e.locked | (d.count != 0) | (e.count != 0) {
+        return Err(Refusal::Standing);
     }
+    Ok(())
 }
 
 // The words of a direct entry over both, with the first's user and Lockable and the permissions both
@@ -88,85 +59,58 @@ fn joined(d: Entry, e: Entry) -> Words
     issued_direct(d.base, length, d.user, permissions, d.lockable)
 }
 
-fn check_merge(
-    s: StateWords,
-    table: &[u8],
-    memory: u64,
-    first: u64,
-    second: u64,
-    task: u64,
-    encoding: u64,
-) -> Pair
-    ensures { Pairs first second result (front_on memory (state_as s) table.now (request.merge first second task encoding) []) }
+// All places but 11.
+fn check_merge(s: StateWords, table: &[u8], memory: u64, request: Merge) -> Result<Pair, Refusal>
+    ensures { Pairs request.first request.second result (front_on memory (state_as s) table.now (merge_as request) []) }
 {
-    let a = read(first);
-    let b = read(second);
-    if settings(memory, s, table)
-        & (task < 1 << 55)
-        & (encoding <= 3)
-        & (a.offset == 0)
-        & (b.offset == 0)
+    let a = Token::from(request.first);
+    let b = Token::from(request.second);
+    if !(settings(memory, s, table)
+        & (request.task < 1 << 55)
+        & (request.encoding <= 3)
+        & (a.named.offset == 0)
+        & (b.named.offset == 0))
     {
-        let r = reach_both(table, memory, first, second, a, b, task);
-        match r {
-            Checked::Stop(why) => Pair::Stop(why),
-            Checked::Pass => {
-                let n = a.number as usize;
-                let k = b.number as usize;
-                neighbours(entry_at(table, n), entry_at(table, k), n, k)
-            }
-        }
-    } else {
-        Pair::Stop(Refusal::Request)
+        return Err(Refusal::Request);
     }
+    reach_open(table, memory, a, request.task)?;
+    reach_open(table, memory, b, request.task)?;
+    let first = a.named.number as usize;
+    let second = b.named.number as usize;
+    neighbours(entry_at(table, first), entry_at(table, second))?;
+    Ok(Pair { first, second })
 }
 
-// The first, of number n, is issued anew over both, if a nonce is left for it, and the second, of
-// number k, is freed.
+// The first is issued anew over both, if a nonce is left for it, and the second is freed.
 fn grant_merge(
-    mut s: StateWords,
+    s: &mut StateWords,
     table: &mut [u8],
     memory: u64,
-    n: usize,
-    k: usize,
-    first: u64,
-    second: u64,
-    task: u64,
-    encoding: u64,
-) -> Outcome
-    requires passes { front_on memory (state_as s) table.old (request.merge first second task encoding) [] ≡ pass }
-    requires numbers { (n ≡ number_of first) × (k ≡ number_of second) }
-    ensures { handed result table.new ≡ ruled (ended (state_as s) table.old (grant memory table.old (request.merge first second task encoding) [])) }
+    pair: Pair,
+    request: Merge,
+) -> Result<Granted, Refusal>
+    requires { Pairs request.first request.second (Ok pair) (front_on memory (state_as s.old) table.old (merge_as request) []) }
+    ensures { handed s.new table.new result ≡ ruled (ended (state_as s.old) table.old (grant memory table.old (merge_as request) [])) }
 {
+    let n = pair.first;
     let d = entry_at(table, n);
-    let whole = joined(d, entry_at(table, k));
-    let found = find_anew(s, n, whole, d.tag);
-    if found.nonce < 4294967296 {
-        let new = reissue(s, table, n, whole, found, encoding);
-        let mut words = new.state;
-        words.total = vacate(words.total, table, k);
-        giving(words, new.token)
-    } else {
-        refused(s, Refusal::Nonces)
-    }
+    let whole = joined(d, entry_at(table, pair.second));
+    let found = find_anew(*s, n, whole, d.tag).ok_or(Refusal::Nonces)?;
+    let new = reissue(s, table, n, whole, found, request.encoding);
+    s.total = vacate(s.total, table, pair.second);
+    Ok(giving(new))
 }
 
 // Two neighbours in order become one segment under the first's number.
 pub fn merge(
-    mut s: StateWords,
+    s: &mut StateWords,
     table: &mut [u8],
     memory: &[u8],
-    first: u64,
-    second: u64,
-    task: u64,
-    encoding: u64,
-) -> Outcome
-    ensures { ServedAlone (request.merge first second task encoding) s table.old memory.now result table.new memory.now }
+    request: Merge,
+) -> Result<Granted, Refusal>
+    ensures { ServedAlone (merge_as request) s.old table.old memory.now s.new table.new memory.now result }
 {
     let bytes = memory.len() as u64;
-    let r = check_merge(s, table, bytes, first, second, task, encoding);
-    match r {
-        Pair::Stop(why) => refused(s, why),
-        Pair::Numbers(n, k) => { grant_merge(s, table, bytes, n, k, first, second, task, encoding) }
-    }
+    let pair = check_merge(*s, table, bytes, request)?;
+    grant_merge(s, table, bytes, pair, request)
 }

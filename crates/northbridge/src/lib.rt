@@ -1,4 +1,4 @@
-// The northbridge for C and Rust: one function over six lent slices.
+// The northbridge for C and Rust: one function over six lent slices. `leased` has the other that C calls.
 #![tactic(auto)]
 
 ghost use Rattle.std.specs.Prelude.{◌≡◌};
@@ -6,7 +6,6 @@ ghost use Rattle.interface.specs.Exported.{exported, no_leases};
 ghost use Rattle.interface.specs.Meanings.{left};
 
 use calls::call::{asked_of, carry_out, refuse};
-use interface::request::Asked;
 
 // Serves the request, whatever the slices hold, and returns its refusal (0 granted). An access has no
 // leases, and its minute is not looked at.
@@ -21,17 +20,8 @@ pub extern "C" fn northbridge_serve(
 ) -> u64
     ensures { left result state.new table.new memory.new buffer.new answer.new ≡ exported request.now state.old table.old memory.old buffer.old answer.old no_leases }
 {
-    let asked = asked_of(request, state, answer);
-    match asked {
-        Asked::Known(known) => carry_out(
-            known,
-            state,
-            table,
-            memory,
-            buffer,
-            answer,
-            &request[..0],
-        ),
-        Asked::Unknown => refuse(answer),
-    }
+    let Some(known) = asked_of(request, state, answer, None) else {
+        return refuse(answer);
+    };
+    carry_out(known, state, table, memory, buffer, answer, &request[..0])
 }

@@ -1,22 +1,23 @@
 -- The search for a number, a step at a time.
 -- Assumes nothing.
-use mathlib.Core.Path.{◌≡◌, refl, sym, ◌∙◌}
+use mathlib.Core.Path.{◌≡◌, refl, sym, ap, ◌∙◌}
 use mathlib.Core.Bool.{Bool, true, false, cond}
 use mathlib.Core.List.{List}
+use Rattle.std.specs.Prelude.{Some, None}
 use Prim.Native.Nat.{ℕ, zero, suc, ◌+◌, ◌-◌, ◌/◌, ◌≤◌, ◌<◌}
 use native.Mathlib.Omega.{arith}
 use lib.Dec.{eqb}
 use lib.ListN.{length}
-use borrow.Author.Tests.{eq-eqb, le-ltb, lt-ltb, ne_eqb, not-true}
+use borrow.Author.Tests.{le-ltb, lt-ltb, ne_eqb, not-true}
 use Rattle.machine.specs.Issuing.{after, seek}
 use Rattle.machine.specs.Parts.{at, size}
 use Rattle.bits.proofs.TestLaws.{both}
-use Rattle.numbers.specs.Searches.{first_free, four_taken, taken}
+use Rattle.numbers.specs.Searches.{first_free, four_taken, given, taken}
 
 -- ---- a search in a row of numbers, before the end
 
 module _ (t : List ℕ) (end n : ℕ) where
-  pub first_none : end ≤ n → 0 ≡ first_free (end - n) t n
+  pub first_none : end ≤ n → None ≡ given (first_free (end - n) t n)
   unfolding first_free
   first_none h = let z : end - n ≡ 0 = omega arith in rw z
 
@@ -24,8 +25,8 @@ module _ (t : List ℕ) (end n : ℕ) where
   unfolding first_free
   step h = let z : end - n ≡ suc (end - (n + 1)) = omega arith in rw z
 
-  pub first_here : n < end → eqb (at t n).kind 0 ≡ true → n ≡ first_free (end - n) t n
-  first_here h q = sym (step h ∙ rw q)
+  pub first_here : 0 < n → n < end → eqb (at t n).kind 0 ≡ true → Some n ≡ given (first_free (end - n) t n)
+  first_here z h q = rw (step h, q, ne_eqb n 0 (λ e. omega (arith, e))) refl
 
   pub first_on : n < end → taken t n ≡ true → first_free (end - (n + 1)) t (n + 1) ≡ first_free (end - n) t n
   first_on h q = sym (step h ∙ rw (not-true (eqb (at t n).kind 0) q))
@@ -93,17 +94,33 @@ seek-both t last b h =
     or_none zero = refl
     or_none (suc a) = rw (ne_eqb (suc a) 0 (λ e. omega (arith, e)))
 
--- the ways out, where the search after the last one given came to later
-module _ (t : List ℕ) (last later : ℕ) (full : 64 ≤ length t) (given : last < length t / 32) (is : later ≡ first_free (length t / 32 - (last + 1)) t (last + 1)) where
-  both_ways : seek (size t - 1) t last ≡ or_else later (first_free (last + 1 - 1) t 1)
+-- the ways out, by what the search after the last one given came to
+module _ (t : List ℕ) (last : ℕ) (full : 64 ≤ length t) (inside : last < length t / 32) where
+  abbrev later : ℕ
+  later = first_free (length t / 32 - (last + 1)) t (last + 1)
+
+  abbrev first : ℕ
+  first = first_free (last + 1 - 1) t 1
+
+  both_ways : seek (size t - 1) t last ≡ or_else later first
   unfolding size
-  both_ways = seek-both t last (omega arith) given ∙ rw (← is)
+  both_ways = seek-both t last (omega arith) inside
 
-  pub seek-later : (later ≡ 0 → ⊥) → later ≡ seek (size t - 1) t last
-  seek-later h = sym (both_ways ∙ rw (ne_eqb _ _ h))
+  -- one is found after the last
+  pub seek-later : (n : ℕ) → Some n ≡ given later → Some n ≡ given (seek (size t - 1) t last)
+  seek-later n h = rw both_ways (go (eqb later 0) refl)
+    where
+      go : (b : Bool) → eqb later 0 ≡ b → Some n ≡ given (or_else later first)
+      go true q = let none : Some n ≡ None = h ∙ rw q refl in let z : ◌≡◌ {A = ℕ} 0 1 = cc in absurd (omega arith)
+      go false q = h ∙ ap given (sym (rw q refl))
 
-  pub seek-round : (first : ℕ) → later ≡ 0 → first ≡ first_free (last + 1 - 1) t 1 → first ≡ seek (size t - 1) t last
-  seek-round first h e = e ∙ sym (both_ways ∙ rw (eq-eqb _ _ h))
+  -- or the search goes round
+  pub seek-round : None ≡ given later → given first ≡ given (seek (size t - 1) t last)
+  seek-round h = rw both_ways (go (eqb later 0) refl)
+    where
+      go : (b : Bool) → eqb later 0 ≡ b → given first ≡ given (or_else later first)
+      go true q = ap given (sym (rw q refl))
+      go false q = let some : None ≡ Some later = h ∙ rw q refl in let z : ◌≡◌ {A = ℕ} 0 1 = cc in absurd (omega arith)
 
 -- a step of the search in a row
 pub ruleset row_steps = (first_here, first_none, first_on, first_on-four)

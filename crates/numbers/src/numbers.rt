@@ -2,10 +2,10 @@
 ghost use Rattle.std.specs.Prelude.{◌≡◌, ◌+◌, ◌*◌, ◌-◌, ◌/◌, ◌≤◌, ◌<◌, eqb, length};
 ghost use Rattle.machine.specs.Issuing.{new_number};
 ghost use Rattle.machine.specs.Parts.{at};
-ghost use Rattle.numbers.specs.Searches.{first_free, four_taken, Sought};
+ghost use Rattle.numbers.specs.Searches.{first_free, four_taken, given, Sought};
 ghost use Rattle.table.specs.States.{state_as};
 
-use layout::entry::kind_of;
+use layout::entry::{FREE, kind_of};
 use table::entries::words_at;
 use table::state::StateWords;
 
@@ -14,7 +14,7 @@ fn is_free(table: &[u8], n: usize) -> bool
     requires { 32 * n + 32 ≤ length table.now }
     ensures { result ≡ eqb (at table.now n).kind 0 }
 {
-    kind_of(words_at(table, n)) == 0
+    kind_of(words_at(table, n)) == FREE
 }
 
 // Four numbers from n on are all taken. It looks at each of them, without a branch.
@@ -26,7 +26,8 @@ fn four_taken(table: &[u8], n: usize) -> bool
     !is_free(table, n) & !is_free(table, n + 1) & !is_free(table, n + 2) & !is_free(table, n + 3)
 }
 
-// Passes over taken numbers from the start on, four by four.
+// Passes over taken numbers from the start on, four by four. It hands back where it stopped, with what is
+// left behind the last four: a range stepped by four would say neither.
 #[tactic(auto, using(crate::proofs::SearchLaws::row_steps))]
 fn skip(table: &[u8], start: usize, end: usize) -> usize
     requires { (start ≤ end) × (32 * end ≤ length table.now) }
@@ -42,33 +43,30 @@ fn skip(table: &[u8], start: usize, end: usize) -> usize
     n
 }
 
-// The first free number from the start on and before the end, or 0 if there is none.
+// The first free number from the start on and before the end.
 #[tactic(auto, using(crate::proofs::SearchLaws::row_steps))]
-fn free_in(table: &[u8], start: usize, end: usize) -> usize
-    requires { (start ≤ end) × (32 * end ≤ length table.now) }
-    ensures { result ≡ first_free (end - start) table.now start }
+fn free_in(table: &[u8], start: usize, end: usize) -> Option<usize>
+    requires { (0 < start) × ((start ≤ end) × (32 * end ≤ length table.now)) }
+    ensures { result ≡ given (first_free (end - start) table.now start) }
 {
-    let mut n = skip(table, start, end);
-    while n < end {
+    for n in skip(table, start, end)..end {
         if is_free(table, n) {
-            return n;
+            return Some(n);
         }
-        n += 1;
     }
-    0
+    None
 }
 
-// The first free number after the last one given, or 0 if there is none.
+// The first free number after the last one given.
 #[tactic(auto, using(crate::proofs::SearchLaws::seek_ends))]
-pub fn new_number(s: StateWords, table: &[u8]) -> usize
+pub fn new_number(s: StateWords, table: &[u8]) -> Option<usize>
     requires { (64 ≤ length table.now) × (s.last < length table.now / 32) }
-    ensures { result ≡ new_number (state_as s) table.now }
+    ensures { result ≡ given (new_number (state_as s) table.now) }
 {
     let last = s.last as usize;
     let later = free_in(table, last + 1, table.len() / 32);
-    if later == 0 {
-        free_in(table, 1, last + 1)
-    } else {
-        later
+    match later {
+        Some(n) => Some(n),
+        None => free_in(table, 1, last + 1),
     }
 }

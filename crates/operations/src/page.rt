@@ -1,12 +1,11 @@
 // Paging: a segment goes out to a buffer of its length, and comes in to a donor's.
-ghost use Rattle.std.specs.Prelude.{◌≡◌};
-ghost use Rattle.machine.specs.Requests as request;
+ghost use Rattle.rulings.specs.Asked.{page_in_as, page_out_as};
 ghost use Rattle.rulings.specs.Served.{Served};
 
-use crate::state::State;
+use crate::state::{Outcome, State};
 use paging::page_in::page_in;
 use paging::page_out::page_out;
-use rulings::reply::Outcome;
+use rulings::request::{PageIn, PageOut};
 
 impl State {
     // The segment's bytes go to the buffer, and its entry is paged out under a page-file number. The
@@ -16,15 +15,12 @@ impl State {
         table: &mut [u8],
         memory: &mut [u8],
         buffer: &mut [u8],
-        token: u64,
-        task: u64,
-        page: u64,
-        encoding: u64,
+        request: PageOut,
     ) -> Outcome
-        ensures { Served (request.page_out token task page encoding) self.words table.old memory.old buffer.old result table.new memory.new buffer.new }
+        ensures { Served (page_out_as request) self.words table.old memory.old buffer.old result.state.words table.new memory.new buffer.new result.reply }
     {
-        let words = self.words;
-        page_out(words, table, memory, buffer, token, task, page, encoding)
+        let reply = page_out(&mut self.words, table, memory, buffer, request);
+        Outcome { state: self, reply }
     }
 
     // What was paged out comes in from the buffer, to the donor's segment; the donor is freed.
@@ -33,14 +29,11 @@ impl State {
         table: &mut [u8],
         memory: &mut [u8],
         buffer: &[u8],
-        token: u64,
-        donor: u64,
-        task: u64,
-        encoding: u64,
+        request: PageIn,
     ) -> Outcome
-        ensures { Served (request.page_in token donor task encoding) self.words table.old memory.old buffer.now result table.new memory.new buffer.now }
+        ensures { Served (page_in_as request) self.words table.old memory.old buffer.now result.state.words table.new memory.new buffer.now result.reply }
     {
-        let words = self.words;
-        page_in(words, table, memory, buffer, token, donor, task, encoding)
+        let reply = page_in(&mut self.words, table, memory, buffer, request);
+        Outcome { state: self, reply }
     }
 }

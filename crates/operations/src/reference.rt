@@ -1,40 +1,22 @@
 // References to a segment: derive, execute-only, clone, drop.
-ghost use Rattle.std.specs.Prelude.{◌≡◌};
 ghost use Rattle.machine.specs.Requests as request;
+ghost use Rattle.rulings.specs.Asked.{derive_as};
 ghost use Rattle.rulings.specs.Served.{ServedAlone};
 
-use crate::state::State;
+use crate::state::{Outcome, State};
 use drops::drop::drop;
 use references::clone::clone;
 use references::derive::derive;
 use references::execute_only::execute_only;
-use rulings::reply::Outcome;
+use rulings::request::Derive;
 
 impl State {
     // A token for a part of the segment, or for all of it, with no permission that its parent has not.
-    pub fn derive(
-        mut self,
-        table: &mut [u8],
-        memory: &[u8],
-        token: u64,
-        offset: u64,
-        length: u64,
-        permissions: u64,
-        encoding: u64,
-    ) -> Outcome
-        ensures { ServedAlone (request.derive token offset length permissions encoding) self.words table.old memory.now result table.new memory.now }
+    pub fn derive(mut self, table: &mut [u8], memory: &[u8], request: Derive) -> Outcome
+        ensures { ServedAlone (derive_as request) self.words table.old memory.now result.state.words table.new memory.now result.reply }
     {
-        let words = self.words;
-        derive(
-            words,
-            table,
-            memory,
-            token,
-            offset,
-            length,
-            permissions,
-            encoding,
-        )
+        let reply = derive(&mut self.words, table, memory, request);
+        Outcome { state: self, reply }
     }
 
     // A token for the segment with X alone.
@@ -45,25 +27,25 @@ impl State {
         token: u64,
         encoding: u64,
     ) -> Outcome
-        ensures { ServedAlone (request.execute_only token encoding) self.words table.old memory.now result table.new memory.now }
+        ensures { ServedAlone (request.execute_only token encoding) self.words table.old memory.now result.state.words table.new memory.now result.reply }
     {
-        let words = self.words;
-        execute_only(words, table, memory, token, encoding)
+        let reply = execute_only(&mut self.words, table, memory, token, encoding);
+        Outcome { state: self, reply }
     }
 
     // One more holder of the token.
     pub fn clone(mut self, table: &mut [u8], memory: &[u8], token: u64) -> Outcome
-        ensures { ServedAlone (request.clone token) self.words table.old memory.now result table.new memory.now }
+        ensures { ServedAlone (request.clone token) self.words table.old memory.now result.state.words table.new memory.now result.reply }
     {
-        let words = self.words;
-        clone(words, table, memory, token)
+        let reply = clone(self.words, table, memory, token);
+        Outcome { state: self, reply }
     }
 
     // One holder of the token less.
     pub fn drop(mut self, table: &mut [u8], memory: &[u8], token: u64) -> Outcome
-        ensures { ServedAlone (request.release token) self.words table.old memory.now result table.new memory.now }
+        ensures { ServedAlone (request.release token) self.words table.old memory.now result.state.words table.new memory.now result.reply }
     {
-        let words = self.words;
-        drop(words, table, memory, token)
+        let reply = drop(&mut self.words, table, memory, token);
+        Outcome { state: self, reply }
     }
 }

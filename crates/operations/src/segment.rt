@@ -1,74 +1,39 @@
 // Whole segments: reset, create, merge, revoke.
-ghost use Rattle.std.specs.Prelude.{◌≡◌};
 ghost use Rattle.machine.specs.Requests as request;
+ghost use Rattle.rulings.specs.Asked.{create_as, merge_as, reset_as};
 ghost use Rattle.rulings.specs.Served.{ServedAlone};
 
-use crate::state::State;
+use crate::state::{Outcome, State};
 use merges::merge::merge;
-use rulings::reply::Outcome;
+use rulings::request::{Create, Merge, Reset};
 use segments::create::create;
 use segments::reset::reset;
 use segments::revoke::revoke;
 
 impl State {
     // Writes the root entry, makes all other entries zeros, and starts from the key and nonce.
-    pub fn reset(
-        mut self,
-        table: &mut [u8],
-        memory: &[u8],
-        key0: u64,
-        key1: u64,
-        first_nonce: u64,
-    ) -> Outcome
-        ensures { ServedAlone (request.reset key0 key1 first_nonce) self.words table.old memory.now result table.new memory.now }
+    pub fn reset(mut self, table: &mut [u8], memory: &[u8], request: Reset) -> Outcome
+        ensures { ServedAlone (reset_as request) self.words table.old memory.now result.state.words table.new memory.now result.reply }
     {
-        let words = self.words;
-        reset(words, table, memory, key0, key1, first_nonce)
+        let reply = reset(&mut self.words, table, memory, request);
+        Outcome { state: self, reply }
     }
 
     // A front part of the segment as a segment of its own, with a user and permissions, and the
-    // rest. Without a rest the second token is zero.
-    pub fn create(
-        mut self,
-        table: &mut [u8],
-        memory: &[u8],
-        token: u64,
-        task: u64,
-        length: u64,
-        user: u64,
-        permissions: u64,
-        encoding: u64,
-    ) -> Outcome
-        ensures { ServedAlone (request.create token task length user permissions encoding) self.words table.old memory.now result table.new memory.now }
+    // rest. Without a rest there is one token.
+    pub fn create(mut self, table: &mut [u8], memory: &[u8], request: Create) -> Outcome
+        ensures { ServedAlone (create_as request) self.words table.old memory.now result.state.words table.new memory.now result.reply }
     {
-        let words = self.words;
-        create(
-            words,
-            table,
-            memory,
-            token,
-            task,
-            length,
-            user,
-            permissions,
-            encoding,
-        )
+        let reply = create(&mut self.words, table, memory, request);
+        Outcome { state: self, reply }
     }
 
     // Two neighbours in order become one segment under the first's number.
-    pub fn merge(
-        mut self,
-        table: &mut [u8],
-        memory: &[u8],
-        first: u64,
-        second: u64,
-        task: u64,
-        encoding: u64,
-    ) -> Outcome
-        ensures { ServedAlone (request.merge first second task encoding) self.words table.old memory.now result table.new memory.now }
+    pub fn merge(mut self, table: &mut [u8], memory: &[u8], request: Merge) -> Outcome
+        ensures { ServedAlone (merge_as request) self.words table.old memory.now result.state.words table.new memory.now result.reply }
     {
-        let words = self.words;
-        merge(words, table, memory, first, second, task, encoding)
+        let reply = merge(&mut self.words, table, memory, request);
+        Outcome { state: self, reply }
     }
 
     // The segment is zeroed and issued anew, with all rights; the tag that it had names it no more.
@@ -79,9 +44,9 @@ impl State {
         token: u64,
         encoding: u64,
     ) -> Outcome
-        ensures { ServedAlone (request.revoke token encoding) self.words table.old memory.old result table.new memory.new }
+        ensures { ServedAlone (request.revoke token encoding) self.words table.old memory.old result.state.words table.new memory.new result.reply }
     {
-        let words = self.words;
-        revoke(words, table, memory, token, encoding)
+        let reply = revoke(&mut self.words, table, memory, token, encoding);
+        Outcome { state: self, reply }
     }
 }

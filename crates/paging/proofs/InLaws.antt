@@ -1,20 +1,21 @@
 -- Paging in: the ways out of its checks, and what it leaves.
 -- Assumes nothing.
 use mathlib.Core.Path.{◌≡◌, ap, sym, ◌∙◌}
-use mathlib.Core.Bool.{true, false, not, ◌&&◌, cond}
-use mathlib.Core.List.{List}
+use mathlib.Core.Bool.{Bool, true, false, not, ◌&&◌, cond}
+use mathlib.Core.List.{List, [], ◌∷◌}
+use Rattle.std.specs.Prelude.{Ok, Err, None}
 use Prim.Native.Nat.{ℕ, ◌+◌, ◌*◌, ◌/◌, ◌^◌, ◌≤◌, ◌<◌}
 use native.Mathlib.Omega.{arith}
 use lib.Dec.{eqb, leb, ltb}
 use lib.ListN.{length}
 use lib.Seq.{sets}
 use borrow.Author.Tests.{eqb-true, leb-true, ltb-true}
-use Rattle.tokens.specs.Token.{named}
-use Rattle.entering.specs.Nonces.{Finds}
+use Rattle.entering.specs.Nonces.{Finds, Sought}
 use Rattle.entering.specs.declared.nonces.Found.{Found}
 use Rattle.layout.specs.Entry.{dated}
 use Rattle.layout.specs.declared.entry.Entry.{Entry}
 use Rattle.tokens.specs.declared.token.Named.{Named}
+use Rattle.tokens.specs.declared.read.Token.{Token}
 use Rattle.checks.specs.Holds.{request_holds, settings_hold}
 use Rattle.checks.specs.Reached.{page_verdict}
 use Rattle.checks.specs.declared.refusal.Refusal.TheVariants.{Nonces}
@@ -28,24 +29,21 @@ use Rattle.machine.specs.Steps.{memory_after, pass, stop}
 use Rattle.machine.specs.Stops.{at_bounds, at_kind, at_standing, page_reachable, Refusal}
 use Rattle.machine.specs.Writes.{one_more, opened, reissue, vacated, write}
 use Rattle.machine.proofs.Decided.{Passed, passed}
-use Rattle.issuing.specs.Issued.{issued_as}
-use Rattle.table.specs.Left.{left_by}
+use Rattle.table.specs.Left.{left_as, left_by}
 use Rattle.table.specs.States.{retotalled, state_as}
 use Rattle.table.specs.declared.state.StateWords.{StateWords}
-use Rattle.issuing.specs.declared.writes.Issued.{Issued}
 use Rattle.table.proofs.FitLaws.{at_fits}
-use Rattle.rulings.specs.Rulings.{ended, front_on, giving_one, handed, inner_on, refusing, ruled, tokens_on}
-use Rattle.rulings.specs.declared.reply.Outcome.{Outcome}
+use Rattle.rulings.specs.Rulings.{ended, front_on, giving_one, handed, inner_on, ruled, tokens_on}
 use Rattle.rulings.proofs.RulingLaws.{front, front-passed, left_effect, left_ruled, spent-effect, spent-ruled}
 use Rattle.segments.proofs.SegmentLaws.{both_hold, vacating}
 
-module _ (m : ℕ) (s : State) (t : List ℕ) (j k u c : ℕ) (b : List ℕ) where
-  -- place 1, with the tokens read as one and two
-  pub in_request : (one two : Named) → one ≡ named j → two ≡ named k
-      → (settings_hold m s t && ltb u (2 ^ 55) && leb c 3 && eqb one.offset 0 && eqb two.offset 0) ≡ request_holds m s t (page_in j k u c) b
-  unfolding settings_hold request_holds
-  in_request one two is_first is_second = rw (is_first, is_second)
+-- place 1, as the code tests it
+pub in_request : (m : ℕ) (s : State) (t : List ℕ) (x y : Token) (u c : ℕ) (b : List ℕ) {set r : Bool} → set ≡ settings_hold m s t
+    → (set && ltb u (2 ^ 55) && leb c 3 && eqb x.named.offset 0 && eqb y.named.offset 0) ≡ r → request_holds m s t (page_in x.word y.word u c) b ≡ r
+unfolding settings_hold request_holds
+in_request m s t x y u c b setting h = sym (rw (setting, x.reads, y.reads)) ∙ h
 
+module _ (m : ℕ) (s : State) (t : List ℕ) (j k u c : ℕ) (b : List ℕ) where
   -- ---- both tokens
 
   pub in_first : {r : Refusal} → page_verdict m t j u ≡ stop r → tokens_on m s t (page_in j k u c) b ≡ stop r
@@ -115,40 +113,48 @@ named-pair m s t j k u c b h =
       next = leb-true s.next spent (search);
     }
 
-pub bringable : (m : ℕ) (s : State) (t : List ℕ) (j k u c : ℕ) (b : List ℕ) → front_on m s t (page_in j k u c) b ≡ pass
-    → (one two : Named) → one ≡ named j → two ≡ named k → Bringable m s t one.number two.number c b
-bringable m s t j k u c b h one two is_first is_second = rw (is_first, is_second) (named-pair m s t j k u c b h)
+pub bringable : (m : ℕ) (s : State) (t : List ℕ) (x y : Token) (u c : ℕ) (b : List ℕ) → front_on m s t (page_in x.word y.word u c) b ≡ pass → Bringable m s t x.named.number y.named.number c b
+bringable m s t x y u c b h = rw (x.reads, y.reads) (named-pair m s t x.word y.word u c b h)
 
 -- ---- what is handed back
 
--- the tokens are read as one and two, their entries as e and d, and new is found for what comes in
-pub record Brings (s : StateWords) (t : List ℕ) (j k : ℕ) (one two : Named) (e d back : Entry) (new : Found) : Type 0 where
-  pub is_first : one ≡ named j
-  pub is_second : two ≡ named k
-  pub first : e ≡ at t one.number
-  pub second : d ≡ at t two.number
+-- the tokens are x and y, their entries are e and d, and back is what comes in
+pub record Brings (t : List ℕ) (x y : Token) (e d back : Entry) : Type 0 where
+  pub first : e ≡ at t x.named.number
+  pub second : d ≡ at t y.named.number
   pub over : back ≡ in_of e d 0
-  pub found : Finds (state_as s) t one.number back new
 
-module _ {s : StateWords} {t : List ℕ} {j k : ℕ} {one two : Named} {e d back : Entry} {new : Found} (x : Brings s t j k one two e d back new) (c : ℕ) (b : List ℕ) where
+module _ {t : List ℕ} {y z : Token} {e d back : Entry} (x : Brings t y z e d back) (s : StateWords) (c : ℕ) (b : List ℕ) where
+  abbrev one : Named
+  one = y.named
+
+  abbrev two : Named
+  two = z.named
+
   abbrev g : Grant
-  g = grant_page_in t (number_of j) (number_of k) c b
+  g = grant_page_in t (number_of y.word) (number_of z.word) c b
 
-  next : (book (state_as s) t g).state.next ≡ new.nonce + 1
-  next = rw (x.found.nonce, x.over, x.first, x.second, x.is_first, x.is_second)
+  -- no nonce is left
+  module _ (none : Sought (state_as s) t one.number back None) where
+    too_few : spent < (book (state_as s) t g).state.next
+    too_few = omega (arith, rw (x.over, x.first, x.second, y.reads, z.reads) at none)
 
-  pub in_spent : (r : Outcome) → spent ≤ new.nonce → r ≡ refusing s Nonces → handed r t ≡ ruled (ended (state_as s) t g)
-  in_spent r h done = spent-ruled s t g (omega (arith, next)) r done
+    pub in_spent : handed s t (Err Nonces) ≡ ruled (ended (state_as s) t g)
+    in_spent = spent-ruled s t g too_few
 
-  pub in_stays : (memory : List ℕ) → spent ≤ new.nonce → memory ≡ memory_after (ended (state_as s) t g).effect memory
-  in_stays memory h = rw (spent-effect (state_as s) t g (omega (arith, next)))
+    pub in_stays : (memory : List ℕ) → memory ≡ memory_after (ended (state_as s) t g).effect memory
+    in_stays memory = rw (spent-effect (state_as s) t g too_few)
 
-  pub in_grants : (r : Outcome) → new.nonce < spent → (a : Issued) (total : ℕ) (t₁ t₂ : List ℕ)
-      → issued_as a t₁ ≡ left_by (write c (opened (state_as s) t) (reissue one.number (dated back)))
-      → total ≡ one_more (most_free t₁) two.number a.state.total → t₂ ≡ vacated t₁ two.number
-      → r ≡ giving_one (retotalled a.state total) a.token → handed r t₂ ≡ ruled (ended (state_as s) t g)
-  in_grants r h a total t₁ t₂ left more freed done =
-      left_ruled (state_as s) t g (omega (arith, next)) _ (rw (done, freed, more) (ap (vacating two.number) left ∙ rw (x.over, x.first, x.second, x.is_first, x.is_second)))
+  -- or it is that of new
+  module _ {new : Found} (found : Finds (state_as s) t one.number back new) where
+    enough : (book (state_as s) t g).state.next ≤ spent
+    enough = omega (arith, found.left, rw (x.over, x.first, x.second, y.reads, z.reads) at found.nonce)
 
-  pub in_stores : (memory memory' : List ℕ) → new.nonce < spent → memory' ≡ sets memory d.base b → memory' ≡ memory_after (ended (state_as s) t g).effect memory
-  in_stores memory memory' h stored = stored ∙ rw (left_effect (state_as s) t g (omega (arith, next)), x.second, x.is_second)
+    pub in_grants : {s₁ : StateWords} {i total : ℕ} {t₁ t₂ : List ℕ} → left_as s₁ t₁ (i ∷ []) ≡ left_by (write c (opened (state_as s) t) (reissue one.number (dated back)))
+        → total ≡ one_more (most_free t₁) two.number s₁.total → t₂ ≡ vacated t₁ two.number
+        → handed (retotalled s₁ total) t₂ (Ok (giving_one i)) ≡ ruled (ended (state_as s) t g)
+    in_grants left more freed =
+        left_ruled (state_as s) t g enough _ (rw (freed, more) (ap (vacating two.number) left ∙ rw (x.over, x.first, x.second, y.reads, z.reads)))
+
+    pub in_stores : (memory memory' : List ℕ) → memory' ≡ sets memory d.base b → memory' ≡ memory_after (ended (state_as s) t g).effect memory
+    in_stores memory memory' stored = stored ∙ rw (left_effect (state_as s) t g enough, x.second, z.reads)

@@ -1,19 +1,23 @@
 -- Paging out: the ways out of its checks, and what it leaves.
 -- Assumes nothing.
-use mathlib.Core.Path.{◌≡◌, refl, ap, ◌∙◌}
+use mathlib.Core.Path.{◌≡◌, refl, sym, ap, ◌∙◌}
 use mathlib.Core.Bool.{Bool, true, false, not, ◌&&◌, cond}
 use mathlib.Core.List.{List, [], ◌∷◌, ◌++◌}
+use Rattle.std.specs.Prelude.{Ok, Err, None}
 use Prim.Native.Nat.{ℕ, ◌+◌, ◌*◌, ◌/◌, ◌^◌, ◌≤◌, ◌<◌}
 use native.Mathlib.Omega.{arith}
 use native.Mathlib.Decide.{dec_lt}
+use Rattle.std.proofs.Math.Bool.{and-true}
 use lib.Dec.{eqb, leb, ltb}
 use lib.ListN.{drop, length, replicate, take}
 use lib.Seq.{sets}
 use borrow.Author.Tests.{eq-eqb, eqb-false, eqb-true, leb-true, lt-ltb, ltb-true, ne_eqb, not-false, not-true}
 use Rattle.tokens.specs.Token.{named}
-use Rattle.layout.specs.Entry.{dated, entry_of, laid_paged}
+use Rattle.layout.specs.Entry.{dated, entry_of, laid_paged, words_number}
 use Rattle.layout.specs.declared.entry.Entry.{Entry}
+use Rattle.layout.specs.declared.entry.Words.{Words}
 use Rattle.tokens.specs.declared.token.Named.{Named}
+use Rattle.tokens.specs.declared.read.Token.{Token}
 use Rattle.checks.specs.Holds.{request_holds, settings_hold}
 use Rattle.checks.specs.Reached.{reach_verdict}
 use Rattle.checks.specs.declared.refusal.Refusal.TheVariants.{Nonces}
@@ -27,34 +31,27 @@ use Rattle.machine.specs.Stops.{at_bounds, at_kind, at_standing, places, sizes}
 use Rattle.machine.specs.Writes.{give, opened, reissue, written}
 use Rattle.machine.proofs.Decided.{AllTrue, Passed}
 use Rattle.machine.proofs.Fuel.{number_first, other-least}
-use Rattle.entering.specs.Nonces.{FindsTwo}
+use Rattle.entering.specs.Nonces.{FindsTwo, SoughtTwo}
 use Rattle.entering.specs.declared.nonces.Found.{Found}
 use Rattle.entering.specs.declared.nonces.FoundTwo.{FoundTwo}
 use Rattle.issuing.proofs.WriteLaws.{new_kept}
-use Rattle.issuing.specs.Issued.{issued_two_as}
-use Rattle.table.specs.Left.{left_by}
+use Rattle.table.specs.Left.{left_as, left_by}
 use Rattle.table.specs.States.{state_as}
 use Rattle.table.specs.declared.state.StateWords.{StateWords}
-use Rattle.issuing.specs.declared.writes.IssuedTwo.{IssuedTwo}
 use Rattle.table.proofs.FitLaws.{at_fits}
 use Rattle.rulings.specs.Allotments.{allot_verdict, Limits}
-use Rattle.rulings.specs.Rulings.{ended, front_on, giving_two, handed, inner_on, refusing, ruled, tokens_on}
-use Rattle.rulings.specs.declared.reply.Outcome.{Outcome}
+use Rattle.rulings.specs.Rulings.{ended, front_on, giving_two, handed, inner_on, ruled, tokens_on}
 use Rattle.rulings.proofs.AllotLaws.{limits, new_in}
 use Rattle.rulings.proofs.RulingLaws.{front, front-passed, front-tokens, left_effect, left_ruled, request-true, spent-effect, spent-ruled}
 use Rattle.segments.proofs.SegmentLaws.{both_hold, leaving}
 
--- a test that always holds
-and_true : (a b c : Bool) → c ≡ true → (a && b) ≡ (a && c && b)
-and_true true b c h = rw h
-and_true false b c h = refl
+module _ (m : ℕ) (s : State) (t : List ℕ) (x : Token) (u f c : ℕ) (b : List ℕ) where
+  -- place 1, as the code tests it; every page-file number that there is fits
+  pub out-request : {set r : Bool} → f < 2 ^ 64 → set ≡ settings_hold m s t → (set && ltb u (2 ^ 55) && leb c 3 && eqb x.named.offset 0) ≡ r → request_holds m s t (page_out x.word u f c) b ≡ r
+  unfolding settings_hold request_holds
+  out-request page setting h = sym (rw (setting, x.reads, lt-ltb f (2 ^ 64) page, and-true (settings_hold m s t && ltb u (2 ^ 55) && leb c 3))) ∙ h
 
 module _ (m : ℕ) (s : State) (t : List ℕ) (k u f c : ℕ) (b : List ℕ) where
-  -- place 1, with the token read as n; every page-file number that there is fits
-  pub out-request : (n : Named) → n ≡ named k → f < 2 ^ 64 → (settings_hold m s t && ltb u (2 ^ 55) && leb c 3 && eqb n.offset 0) ≡ request_holds m s t (page_out k u f c) b
-  unfolding settings_hold request_holds
-  out-request n is page = rw is (and_true (settings_hold m s t && ltb u (2 ^ 55) && leb c 3) (eqb (named k).offset 0) (ltb f (2 ^ 64)) (lt-ltb f (2 ^ 64) page))
-
   pub out-limits : request_holds m s t (page_out k u f c) b ≡ true → Limits s t
   out-limits ok =
       let all : AllTrue (sizes m t ++ (places m s t (page_out k u f c) b).request) = request-true m s t (page_out k u f c) b ok in
@@ -86,7 +83,7 @@ module _ (m : ℕ) (s : State) (t : List ℕ) (k u f c : ℕ) (b : List ℕ) whe
         pub idle-allot : not (not e.locked && eqb e.count 0) ≡ false → inner_on m s t (page_out k u f c) b ≡ allot_verdict s t
         idle-allot h = standing ∙ rw (not-false (not e.locked && eqb e.count 0) h)
 
--- ---- what a pass says, where the token is read as n, and its entry as e
+-- ---- what a pass says, where the token names n, and its entry is e
 
 pub record Idle (m : ℕ) (s : State) (t : List ℕ) (n : ℕ) (e : Entry) (c : ℕ) (b : List ℕ) : Type 0 where
   pub inside : 32 * n + 32 ≤ length t
@@ -101,9 +98,9 @@ pub record Idle (m : ℕ) (s : State) (t : List ℕ) (n : ℕ) (e : Entry) (c : 
   pub apart : n ≡ new_number s t → ⊥
 
 module _ (m : ℕ) (s : State) (t : List ℕ) (k u f c : ℕ) (b : List ℕ) (h : front_on m s t (page_out k u f c) b ≡ pass) where
-  pub out_in : 32 * number_of k + 32 ≤ length t
+  named_in : 32 * number_of k + 32 ≤ length t
   unfolding reach_verdict tokens_on
-  out_in = reach_in m t k u (front-tokens m s t (page_out k u f c) b h)
+  named_in = reach_in m t k u (front-tokens m s t (page_out k u f c) b h)
 
   named-idle : Idle m s t (number_of k) (named_entry t k) c b
   unfolding size
@@ -114,7 +111,7 @@ module _ (m : ℕ) (s : State) (t : List ℕ) (k u f c : ℕ) (b : List ℕ) (h 
       let one : (named_entry t k).kind ≡ 1 = eqb-true (named_entry t k).kind 1 (search) in
       let free : (at t (new_number s t)).kind ≡ 0 = (number_first s t (eqb-false _ _ (not-true _ (search)))).free in
       record {
-        inside = out_in;
+        inside = named_in;
         small = omega (arith, set.most);
         segment = reached_inside m t (number_of k) (search) (search) (search);
         long = eqb-true (length b) (named_entry t k).length (search);
@@ -126,22 +123,30 @@ module _ (m : ℕ) (s : State) (t : List ℕ) (k u f c : ℕ) (b : List ℕ) (h 
         apart = λ z. omega (arith, ap (λ (i : ℕ). (at t i).kind) z);
       }
 
-  pub idle : (n : Named) (e : Entry) → n ≡ named k → e ≡ at t n.number → Idle m s t n.number e c b
-  idle n e is there = rw (there, is) named-idle
+module _ (m : ℕ) (s : State) (t : List ℕ) (x : Token) (u f c : ℕ) (b : List ℕ) (h : front_on m s t (page_out x.word u f c) b ≡ pass) where
+  pub out_in : 32 * x.named.number + 32 ≤ length t
+  out_in = rw x.reads (named_in m s t x.word u f c b h)
+
+  pub idle : {e : Entry} → e ≡ at t x.named.number → Idle m s t x.named.number e c b
+  idle there = rw (there, x.reads) (named-idle m s t x.word u f c b h)
 
 -- ---- what is handed back
 
--- the token is read as n, its entry as e; w and v are what is issued, paged out and zeroed, new is the new number, and f is found for both
-pub record Sends (s : StateWords) (t : List ℕ) (k p : ℕ) (n : Named) (e : Entry) (w v new : ℕ) (f : FoundTwo) : Type 0 where
+-- the token k names n, its entry is e; w and v are what is issued, paged out and zeroed, and new is the new number
+pub record Sends (s : StateWords) (t : List ℕ) (k p : ℕ) (n : Named) (e : Entry) (w v new : ℕ) : Type 0 where
   pub is : n ≡ named k
   pub there : e ≡ at t n.number
   pub full : (at t n.number).kind ≡ 0 → ⊥
   pub paged : entry_of w ≡ out_of e p 0
   pub anew : entry_of v ≡ fresh e 0
   pub number : new ≡ new_number (state_as s) t
-  pub found : FindsTwo (state_as s) t n.number (entry_of w) new (entry_of v) f
 
-module _ {s : StateWords} {t : List ℕ} {k p : ℕ} {n : Named} {e : Entry} {w v new : ℕ} {f : FoundTwo} (x : Sends s t k p n e w v new f) (c : ℕ) where
+pub sends : (m : ℕ) (s : StateWords) (t : List ℕ) (x : Token) (u p c : ℕ) (b : List ℕ) {new : ℕ} → (front_on m (state_as s) t (page_out x.word u p c) b ≡ pass) × (new ≡ new_number (state_as s) t)
+    → {e : Entry} (w v : Words) → e ≡ at t x.named.number → entry_of (words_number w) ≡ out_of e p 0 → entry_of (words_number v) ≡ fresh e 0
+    → Sends s t x.word p x.named e (words_number w) (words_number v) new
+sends m s t x u p c b h w v there paged anew = record { is = x.reads; there = there; full = (idle m (state_as s) t x u p c b h.0 there).full; paged = paged; anew = anew; number = h.1 }
+
+module _ {s : StateWords} {t : List ℕ} {k p : ℕ} {n : Named} {e : Entry} {w v new : ℕ} (x : Sends s t k p n e w v new) (c : ℕ) where
   abbrev g : Grant
   g = grant_page_out t (number_of k) p c
 
@@ -165,34 +170,36 @@ module _ {s : StateWords} {t : List ℕ} {k p : ℕ} {n : Named} {e : Entry} {w 
   kept : ν < spent → new ≡ new_number s₁ t₁
   kept h =
       let first : Found = record { nonce = other_nonce (state_as s) t n.number (dated (entry_of w)); tag = (issue (state_as s) n.number (dated (entry_of w) (other_nonce (state_as s) t n.number (dated (entry_of w))))).tag } in
-      let same = new_kept (state_as s) t new n.number c w first (record { nonce = refl; tag = λ i. refl }) (rw (x.paged, here, x.is) h) x.full (rw x.paged (laid_paged refl)) x.number in
+      let same = new_kept (state_as s) t new n.number c w first (record { nonce = refl; left = rw (x.paged, here, x.is) h; tag = refl }) x.full (rw x.paged (laid_paged refl)) x.number in
       rw (x.paged, here, x.is) at same
 
-  too_few : spent ≤ f.second.nonce → spent < (book (state_as s) t g).state.next
-  too_few h = go (dec_lt ν spent)
-    where
-      go : Dec (ν < spent) → spent < (book (state_as s) t g).state.next
-      go (yes i) = let end = x.found.none h s.last s.total in omega (arith, next, rw (x.paged, x.anew, here, x.is, kept i) at end)
-      go (no i) = omega (arith, next, other-least s₁ t₁ (new_number s₁ t₁) (fresh (named_entry t k)))
+  -- there are too few nonces
+  module _ (none : SoughtTwo (state_as s) t n.number (entry_of w) new (entry_of v) None) where
+    too_few : spent < (book (state_as s) t g).state.next
+    too_few = go (dec_lt ν spent)
+      where
+        go : Dec (ν < spent) → spent < (book (state_as s) t g).state.next
+        go (yes i) = let end = none s.last s.total in omega (arith, next, rw (x.paged, x.anew, here, x.is, kept i) at end)
+        go (no i) = omega (arith, next, other-least s₁ t₁ (new_number s₁ t₁) (fresh (named_entry t k)))
 
-  pub out-spent : spent ≤ f.second.nonce → (r : Outcome) → r ≡ refusing s Nonces → handed r t ≡ ruled (ended (state_as s) t g)
-  out-spent h r done = spent-ruled s t g (too_few h) r done
+    pub out-spent : handed s t (Err Nonces) ≡ ruled (ended (state_as s) t g)
+    out-spent = spent-ruled s t g too_few
 
-  pub out_stays : spent ≤ f.second.nonce → (ended (state_as s) t g).effect ≡ nothing
-  out_stays h = spent-effect (state_as s) t g (too_few h)
+    pub out_stays : (ended (state_as s) t g).effect ≡ nothing
+    out_stays = spent-effect (state_as s) t g too_few
 
-  module _ (h : f.second.nonce < spent) where
+  -- or they are those of f
+  module _ {f : FoundTwo} (found : FindsTwo (state_as s) t n.number (entry_of w) new (entry_of v) f) where
     enough : (book (state_as s) t g).state.next ≤ spent
     enough =
-        let first : f.first.nonce ≡ ν = (x.found.one h).nonce ∙ rw (x.paged, here, x.is) in
-        let second = (x.found.two h s.last s.total).nonce in
-        let low : ν < spent = rw first at (x.found.left h) in
-        omega (arith, next, rw (x.paged, x.anew, here, x.is, first, kept low) at second)
+        let first : f.first.nonce ≡ ν = found.one.nonce ∙ rw (x.paged, here, x.is) in
+        let second = found.two s.last s.total in
+        let low : ν < spent = rw first at found.one.left in
+        omega (arith, next, second.left, rw (x.paged, x.anew, here, x.is, first, kept low) at second.nonce)
 
-    pub out-grants : (b : IssuedTwo) (r : Outcome) (t₂ : List ℕ)
-        → issued_two_as b t₂ ≡ left_by (written c (opened (state_as s) t) (reissue n.number (dated (entry_of w)) ∷ give (dated (entry_of v)) ∷ []))
-        → r ≡ giving_two b.state b.first b.second → handed r t₂ ≡ ruled (ended (state_as s) t g)
-    out-grants b r t₂ left done = left_ruled (state_as s) t g enough _ (rw done (ap leaving left ∙ rw (x.paged, x.anew, x.there, x.is)))
+    pub out-grants : {s' : StateWords} {t' : List ℕ} {i j : ℕ} → left_as s' t' (i ∷ j ∷ []) ≡ left_by (written c (opened (state_as s) t) (reissue n.number (dated (entry_of w)) ∷ give (dated (entry_of v)) ∷ []))
+        → handed s' t' (Ok (giving_two i j)) ≡ ruled (ended (state_as s) t g)
+    out-grants left = left_ruled (state_as s) t g enough _ (ap leaving left ∙ rw (x.paged, x.anew, x.there, x.is))
 
     pub out_clears : (memory memory' : List ℕ) → memory' ≡ sets memory e.base (replicate e.length 0) → memory' ≡ memory_after (ended (state_as s) t g).effect memory
     out_clears memory memory' cleared = cleared ∙ rw (left_effect (state_as s) t g enough, x.there, x.is)

@@ -1,10 +1,12 @@
--- The two requests of paging.
+-- The two requests of paging, with their tokens read.
 -- Assumes nothing.
-use Rattle.std.specs.Prelude.{ℕ}
 use Rattle.machine.specs.Requests as request
-use Rattle.paging.specs.declared.page.Kind.{Kind}
-use Rattle.paging.specs.declared.page.Kind.TheVariants.{In, Out}
+use Rattle.rulings.specs.declared.request.PageIn.{PageIn}
+use Rattle.rulings.specs.declared.request.PageOut.{PageOut}
+use Rattle.tokens.specs.declared.read.Token.{Token}
 
-abbrev pub kind_as : Kind → (token second task encoding : ℕ) → request.Request
-kind_as Out k x u c = request.page_out k u x c
-kind_as In k x u c = request.page_in k x u c
+abbrev pub page_out_with : (token : Token) → PageOut → request.Request
+page_out_with x q = request.page_out x.word q.task q.page q.encoding
+
+abbrev pub page_in_with : (token donor : Token) → PageIn → request.Request
+page_in_with x y q = request.page_in x.word y.word q.task q.encoding

@@ -1,44 +1,20 @@
-// Paging out and in as parts of one function, which is called in two places and so stays one of its
-// own: an access pays nothing for it.
-ghost use Rattle.std.specs.Prelude.{◌≡◌};
-ghost use Rattle.machine.specs.Requests as request;
+// Paging out and in as `serve` calls them: functions of their own, so that no other request pays for
+// them.
+ghost use Rattle.machine.specs.Requests as asking;
+ghost use Rattle.rulings.specs.Asked.{page_in_as, page_out_as};
 ghost use Rattle.rulings.specs.Served.{Served};
-ghost use Rattle.paging.specs.Kinds.{kind_as};
 
 use crate::page_in::page_in;
 use crate::page_out::page_out;
-use rulings::reply::Outcome;
+use checks::refusal::Refusal;
+use rulings::reply::Granted;
+use rulings::request::{PageIn, PageOut};
 use table::state::StateWords;
 
-#[derive(Clone, Copy)]
-pub enum Kind {
-    Out,
-    In,
-}
-
-// What both do: the second word is the page-file number, or the donor's token.
-fn in_or_out(
-    mut s: StateWords,
-    kind: Kind,
-    table: &mut [u8],
-    memory: &mut [u8],
-    buffer: &mut [u8],
-    token: u64,
-    second: u64,
-    task: u64,
-    encoding: u64,
-) -> Outcome
-    ensures { Served (kind_as kind token second task encoding) s table.old memory.old buffer.old result table.new memory.new buffer.new }
-{
-    match kind {
-        Kind::Out => page_out(s, table, memory, buffer, token, task, second, encoding),
-        Kind::In => page_in(s, table, memory, buffer, token, second, task, encoding),
-    }
-}
-
-// A segment goes out to the buffer.
-pub fn serve_out(
-    mut s: StateWords,
+// Paging out, its words one by one: as a struct they would go through memory, for whatever request.
+#[inline(never)]
+fn out_apart(
+    s: &mut StateWords,
     table: &mut [u8],
     memory: &mut [u8],
     buffer: &mut [u8],
@@ -46,25 +22,22 @@ pub fn serve_out(
     task: u64,
     page: u64,
     encoding: u64,
-) -> Outcome
-    ensures { Served (request.page_out token task page encoding) s table.old memory.old buffer.old result table.new memory.new buffer.new }
+) -> Result<Granted, Refusal>
+    ensures { Served (asking.page_out token task page encoding) s.old table.old memory.old buffer.old s.new table.new memory.new buffer.new result }
 {
-    in_or_out(
-        s,
-        Kind::Out,
-        table,
-        memory,
-        buffer,
+    let request = PageOut {
         token,
-        page,
         task,
+        page,
         encoding,
-    )
+    };
+    page_out(s, table, memory, buffer, request)
 }
 
-// The buffer's bytes come in.
-pub fn serve_in(
-    mut s: StateWords,
+// Paging in, likewise.
+#[inline(never)]
+fn in_apart(
+    s: &mut StateWords,
     table: &mut [u8],
     memory: &mut [u8],
     buffer: &mut [u8],
@@ -72,18 +45,53 @@ pub fn serve_in(
     donor: u64,
     task: u64,
     encoding: u64,
-) -> Outcome
-    ensures { Served (request.page_in token donor task encoding) s table.old memory.old buffer.old result table.new memory.new buffer.new }
+) -> Result<Granted, Refusal>
+    ensures { Served (asking.page_in token donor task encoding) s.old table.old memory.old buffer.old s.new table.new memory.new buffer.new result }
 {
-    in_or_out(
-        s,
-        Kind::In,
-        table,
-        memory,
-        buffer,
+    let request = PageIn {
         token,
         donor,
         task,
         encoding,
-    )
+    };
+    page_in(s, table, memory, buffer, request)
+}
+
+// A segment goes out to the buffer. The state is lent on as a copy, so that for other requests it need not
+// be in memory.
+pub fn serve_out(
+    s: &mut StateWords,
+    table: &mut [u8],
+    memory: &mut [u8],
+    buffer: &mut [u8],
+    request: PageOut,
+) -> Result<Granted, Refusal>
+    ensures { Served (page_out_as request) s.old table.old memory.old buffer.old s.new table.new memory.new buffer.new result }
+{
+    let q = request;
+    let mut words = *s;
+    let reply = out_apart(
+        &mut words, table, memory, buffer, q.token, q.task, q.page, q.encoding,
+    );
+    *s = words;
+    reply
+}
+
+// The buffer's bytes come in, likewise.
+pub fn serve_in(
+    s: &mut StateWords,
+    table: &mut [u8],
+    memory: &mut [u8],
+    buffer: &mut [u8],
+    request: PageIn,
+) -> Result<Granted, Refusal>
+    ensures { Served (page_in_as request) s.old table.old memory.old buffer.old s.new table.new memory.new buffer.new result }
+{
+    let q = request;
+    let mut words = *s;
+    let reply = in_apart(
+        &mut words, table, memory, buffer, q.token, q.donor, q.task, q.encoding,
+    );
+    *s = words;
+    reply
 }

@@ -2,32 +2,32 @@
 -- Assumes nothing.
 use mathlib.Core.Path.{◌≡◌, ap, ◌∙◌}
 use mathlib.Core.Bool.{true, not}
-use mathlib.Core.List.{List}
+use mathlib.Core.List.{List, [], ◌∷◌}
+use Rattle.std.specs.Prelude.{Result, Ok, Err}
 use Prim.Native.Nat.{ℕ, ◌+◌, ◌*◌, ◌/◌, ◌^◌, ◌≤◌, ◌<◌}
 use native.Mathlib.Omega.{arith}
 use lib.Dec.{eqb, leb, ltb}
 use lib.ListN.{length}
 use borrow.Author.Tests.{le-ltb, leb-true, lt-ltb, ltb-true}
+use Rattle.checks.specs.declared.refusal.Refusal as code
 use Rattle.checks.specs.declared.refusal.Refusal.TheVariants.{Nonces}
 use Rattle.entering.specs.Nonces.{Finds}
 use Rattle.entering.specs.declared.nonces.Found.{Found}
 use Rattle.layout.specs.Entry.{dated, indirect, recounted}
 use Rattle.layout.specs.declared.entry.Entry.{Entry}
-use Rattle.machine.specs.Issuing.{new_number}
+use Rattle.machine.specs.Issuing.{new_number, other_nonce}
 use Rattle.machine.specs.Operations.{book, granted, grant_derive, named_entry, number_of, token_of}
 use Rattle.machine.specs.Parts.{at, put, size, spent, State}
 use Rattle.machine.specs.Steps.{stop}
 use Rattle.machine.specs.Stops.{at_standing}
 use Rattle.machine.specs.Writes.{give, opened, write}
 use Rattle.machine.proofs.TableLaws.{length-put}
-use Rattle.issuing.specs.Issued.{issued_as}
-use Rattle.table.specs.Left.{Left, left_by}
+use Rattle.table.specs.Left.{Left, left_as, left_by}
 use Rattle.table.specs.States.{state_as}
 use Rattle.table.specs.declared.state.StateWords.{StateWords}
-use Rattle.issuing.specs.declared.writes.Issued.{Issued}
 use Rattle.rulings.specs.Allotments.{allot_verdict, Limits}
-use Rattle.rulings.specs.Rulings.{giving_one, handed, refusing, Ruling}
-use Rattle.rulings.specs.declared.reply.Outcome.{Outcome}
+use Rattle.rulings.specs.Rulings.{giving_one, handed, Ruling}
+use Rattle.rulings.specs.declared.reply.Granted.{Granted}
 use Rattle.rulings.proofs.AllotLaws.{new_in}
 use Rattle.rulings.proofs.RulingLaws.{left_ruled, spent-ruled}
 use Rattle.references.specs.Children.{Bearing, bearing_on, child_verdict}
@@ -69,27 +69,26 @@ child_bears s t k o p c new set there few some encoded base permitted found =
 pub parent_in : (s : State) (t : List ℕ) (n c : ℕ) (child : ℕ → Entry) (a : Left) → a ≡ left_by (write c (opened s t) (give child)) → 32 * n + 32 ≤ length t → 32 * n + 32 ≤ length a.table
 parent_in s t n c child a gave h = omega (arith, ap (λ (y : Left). length y.table) gave ∙ length-put _ _ _)
 
--- the child of entry n, which is e, under the new number, with the nonce that is found for it
-module _ (s : StateWords) (t : List ℕ) (n o l p c new : ℕ) (e child : Entry) (parent : ℕ) (f : Found) (there : e ≡ at t n) (up : parent ≡ token_of 1 n e) (is : child ≡ indirect (e.base + o) l parent p 0 0)
-    (number : new ≡ new_number (state_as s) t) (found : Finds (state_as s) t new child f) where
-  next : (book (state_as s) t (grant_derive t n o l p c)).state.next ≡ f.nonce + 1
-  next = rw (found.nonce, is, up, there, number)
+-- the child of entry n, which is e, under the new number
+module _ (s : StateWords) (t : List ℕ) (n o l p c new : ℕ) (e child : Entry) (parent : ℕ) (there : e ≡ at t n) (up : parent ≡ token_of 1 n e) (is : child ≡ indirect (e.base + o) l parent p 0 0)
+    (number : new ≡ new_number (state_as s) t) where
+  next : (book (state_as s) t (grant_derive t n o l p c)).state.next ≡ other_nonce (state_as s) t new (dated child) + 1
+  next = rw (is, up, there, number)
 
-  -- there is none
-  pub child-spent : (r : Outcome) → spent ≤ f.nonce → r ≡ refusing s Nonces → handed r t ≡ bearing_on (state_as s) t n o l p c
+  -- no nonce is left for it
+  pub child-spent : (why : code.Refusal) → other_nonce (state_as s) t new (dated child) ≡ spent → ◌≡◌ {A = Result Found code.Refusal} (Err why) (Err Nonces) → handed s t (Err why) ≡ bearing_on (state_as s) t n o l p c
   unfolding bearing_on
-  child-spent r h done = spent-ruled s t (grant_derive t n o l p c) (omega (arith, next)) r done
+  child-spent why h is = let w : why ≡ Nonces = cc in rw w (spent-ruled s t (grant_derive t n o l p c) (omega (arith, next, h)))
 
-  -- it is issued, then the parent has its new count
-  pub child-grants : (i : ℕ) (g : Issued) (t₁ t₂ : List ℕ) (r : Outcome)
-      → f.nonce < spent
-      → issued_as g t₁ ≡ left_by (write c (opened (state_as s) t) (give (dated child)))
+  -- it is issued with the one that is found, then the parent has its new count
+  pub child-grants : (f : Found) (i k : ℕ) (s' : StateWords) (t₁ t₂ : List ℕ) (r : Granted) → Finds (state_as s) t new child f
+      → left_as s' t₁ (k ∷ []) ≡ left_by (write c (opened (state_as s) t) (give (dated child)))
       → i ≡ e.count
       → t₂ ≡ put t₁ n (recounted e (i + 1))
-      → r ≡ giving_one g.state g.token
-      → handed r t₂ ≡ bearing_on (state_as s) t n o l p c
+      → r ≡ giving_one k
+      → handed s' t₂ (Ok r) ≡ bearing_on (state_as s) t n o l p c
   unfolding bearing_on
-  child-grants i g t₁ t₂ r h given counted raised done = left_ruled (state_as s) t (grant_derive t n o l p c) (omega (arith, next)) _ (rw (done, raised) (ap left given ∙ rw (is, up, counted, there)))
+  child-grants f i k s' t₁ t₂ r found given counted raised done = left_ruled (state_as s) t (grant_derive t n o l p c) (omega (arith, next, found.nonce, found.left)) _ (rw (done, raised) (ap left given ∙ rw (is, up, counted, there)))
     where
       -- what is handed back, where the child is left so
       left : Left → Ruling

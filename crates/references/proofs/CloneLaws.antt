@@ -1,8 +1,9 @@
 -- Clone: its checks, and what it leaves.
 -- Assumes nothing.
-use mathlib.Core.Path.{◌≡◌, refl, ◌∙◌}
-use mathlib.Core.Bool.{true, ◌&&◌, cond}
+use mathlib.Core.Path.{◌≡◌, refl, sym, ◌∙◌}
+use mathlib.Core.Bool.{Bool, true, ◌&&◌, cond}
 use mathlib.Core.List.{List, [], ◌∷◌}
+use Rattle.std.specs.Prelude.{Ok}
 use Prim.Native.Nat.{ℕ, ◌+◌, ◌*◌, ◌≤◌, ◌<◌}
 use lib.Dec.{eqb, ltb}
 use lib.ListN.{length}
@@ -23,7 +24,7 @@ use Rattle.machine.proofs.Decided.{Passed}
 use Rattle.table.specs.States.{state_as}
 use Rattle.table.specs.declared.state.StateWords.{StateWords}
 use Rattle.rulings.specs.Rulings.{granting, handed, plainly, tokens_on, verdict_on}
-use Rattle.rulings.specs.declared.reply.Outcome.{Outcome}
+use Rattle.rulings.specs.declared.reply.Granted.{Granted}
 use Rattle.rulings.proofs.AllotLaws.{request-limits}
 use Rattle.rulings.proofs.RulingLaws.{passed_on, rest_alone, token-passes, tokens-passed}
 
@@ -32,6 +33,10 @@ module _ (m : ℕ) (s : State) (t : List ℕ) (k : ℕ) where
   pub clone-request : (n : Named) → n ≡ named k → (settings_hold m s t && eqb n.offset 0) ≡ request_holds m s t (clone k) []
   unfolding settings_hold request_holds
   clone-request n is = rw is
+
+  -- and as its test says, with r for the settings
+  pub clone-asked : (n : Named) (r b : Bool) → n ≡ named k → r ≡ settings_hold m s t → (r && eqb n.offset 0) ≡ b → request_holds m s t (clone k) [] ≡ b
+  clone-asked n r b is held h = sym (clone-request n is) ∙ rw held at h
 
   pub clone-token : {r : Refusal} → live_verdict m t k ≡ stop r → tokens_on m s t (clone k) [] ≡ stop r
   unfolding live_verdict tokens_on
@@ -62,8 +67,8 @@ module _ (m : ℕ) (s : State) (t : List ℕ) (k : ℕ) where
     clone-few = let all : Passed (checks m s t (clone k) []) = passed_on m s t (clone k) [] h in ltb-true _ _ (search)
 
 -- what is handed back, where the token is read as n
-pub clone-grants : (m : ℕ) (s : StateWords) (t : List ℕ) (k : ℕ) (n : Named) (i : ℕ) (r : Outcome) (t' : List ℕ)
-    → n ≡ named k → i ≡ (at t n.number).count → t' ≡ put t n.number (recounted (at t n.number) (i + 1)) → r ≡ plainly s 0
-    → handed r t' ≡ granting m (state_as s) t (clone k) []
+pub clone-grants : (m : ℕ) (s : StateWords) (t : List ℕ) (k : ℕ) (n : Named) (i : ℕ) (r : Granted) (t' : List ℕ)
+    → n ≡ named k → i ≡ (at t n.number).count → t' ≡ put t n.number (recounted (at t n.number) (i + 1)) → r ≡ plainly 0
+    → handed s t' (Ok r) ≡ granting m (state_as s) t (clone k) []
 unfolding granting
 clone-grants m s t k n i r t' is there now done = rw (done, now, there, is)

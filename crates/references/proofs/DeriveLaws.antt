@@ -1,6 +1,6 @@
 -- Derive: its checks, and what it leaves.
 -- Assumes nothing.
-use mathlib.Core.Path.{◌≡◌, refl, ◌∙◌}
+use mathlib.Core.Path.{◌≡◌, refl, sym, ◌∙◌}
 use mathlib.Core.Bool.{Bool, true, false, not, ◌&&◌, cond}
 use mathlib.Core.List.{List, [], ◌∷◌, ◌++◌}
 use Prim.Native.Nat.{ℕ, ◌+◌, ◌^◌, ◌≤◌, ◌<◌}
@@ -32,6 +32,10 @@ module _ (m : ℕ) (s : State) (t : List ℕ) (k o l p c : ℕ) where
   pub derive-request : (n : Named) → n ≡ named k → (settings_hold m s t && leb c 3 && leb p 7 && not (eqb l 0) && eqb n.offset 0) ≡ request_holds m s t (derive k o l p c) []
   unfolding settings_hold request_holds
   derive-request n is = rw is
+
+  -- and as its test says, with r for the settings
+  pub derive-asked : (n : Named) (r b : Bool) → n ≡ named k → r ≡ settings_hold m s t → (r && leb c 3 && leb p 7 && not (eqb l 0) && eqb n.offset 0) ≡ b → request_holds m s t (derive k o l p c) [] ≡ b
+  derive-asked n r b is held h = sym (derive-request n is) ∙ rw held at h
 
   abbrev own : List Bool
   own = encoding_fits c ∷ permissions_fit p ∷ some_length l ∷ no_offset k ∷ []

@@ -1,6 +1,6 @@
 -- Execute-only: its checks, and what it leaves.
 -- Assumes nothing.
-use mathlib.Core.Path.{◌≡◌, refl, ◌∙◌}
+use mathlib.Core.Path.{◌≡◌, refl, sym, ◌∙◌}
 use mathlib.Core.Bool.{Bool, true, false, ◌&&◌, cond}
 use mathlib.Core.List.{List, [], ◌∷◌}
 use Prim.Native.Nat.{ℕ}
@@ -34,6 +34,10 @@ module _ (m : ℕ) (s : State) (t : List ℕ) (k c : ℕ) where
   pub execute_request : (n : Named) → n ≡ named k → (settings_hold m s t && leb c 3 && eqb n.offset 0) ≡ request_holds m s t (execute_only k c) []
   unfolding settings_hold request_holds
   execute_request n is = rw is
+
+  -- and as its test says, with r for the settings
+  pub execute_asked : (n : Named) (r b : Bool) → n ≡ named k → r ≡ settings_hold m s t → (r && leb c 3 && eqb n.offset 0) ≡ b → request_holds m s t (execute_only k c) [] ≡ b
+  execute_asked n r b is held h = sym (execute_request n is) ∙ rw held at h
 
   pub execute_limits : request_holds m s t (execute_only k c) [] ≡ true → Limits s t
   execute_limits ok = request-limits m s t (execute_only k c) [] own refl ok

@@ -5,9 +5,15 @@ use Rattle.layout.specs.declared.entry.Entry.{Entry}
 use Rattle.machine.specs.Issuing.{new_number}
 use Rattle.machine.specs.Operations.{grant_derive}
 use Rattle.machine.specs.Parts.{at, spent, State}
+use Rattle.machine.specs.Requests.{derive, Request}
 use Rattle.machine.specs.Steps.{Verdict, verdict}
 use Rattle.machine.specs.Stops.{bearing}
 use Rattle.rulings.specs.Rulings.{ended, ruled, Ruling}
+use Rattle.rulings.specs.declared.request.Derive.{Derive}
+
+-- a derive, where the word of its token is k: `derive_as q` is `derive_by q.token q`
+abbrev pub derive_by : (token : ℕ) → Derive → Request
+derive_by k q = derive k q.offset q.length q.permissions q.encoding
 
 -- places 9 and 10, for the parent e
 unfoldable pub child_verdict : State → List ℕ → Entry → Verdict

@@ -7,76 +7,69 @@ ghost use Rattle.table.specs.States.{state_as};
 ghost use Rattle.rulings.specs.Rulings.{ended, front_on, handed, ruled};
 ghost use Rattle.rulings.specs.Served.{ServedAlone};
 
-use crate::child::{allot_child, grant_child};
-use checks::reach::{Reached, reach_near};
+use crate::child::{Part, allot_child, grant_child};
+use checks::reach::reach_near;
 use checks::refusal::Refusal;
 use checks::settings::settings;
-use rulings::allot::Allotted;
-use rulings::reply::{Outcome, refused};
+use rulings::reply::Granted;
 use table::entries::entry_at;
 use table::state::StateWords;
 use tokens::permissions::within;
-use tokens::token::read;
+use tokens::read::Token;
 
 fn check_execute_only(
     s: StateWords,
     table: &[u8],
     memory: u64,
-    token: u64,
+    token: Token,
     encoding: u64,
-) -> Allotted
-    ensures { Allots (state_as s) table.now result (front_on memory (state_as s) table.now (request.execute_only token encoding) []) }
+) -> Result<usize, Refusal>
+    ensures { Allots (state_as s) table.now result (front_on memory (state_as s) table.now (request.execute_only token.word encoding) []) }
 {
-    let named = read(token);
-    if settings(memory, s, table) & (encoding <= 3) & (named.offset == 0) {
-        let r = reach_near(table, memory, token, named);
-        match r {
-            Reached::Stop(why) => Allotted::Stop(why),
-            Reached::Owner(_) => {
-                let e = entry_at(table, named.number as usize);
-                if within(1, e.permissions) {
-                    allot_child(s, table, e)
-                } else {
-                    Allotted::Stop(Refusal::Right)
-                }
-            }
-        }
-    } else {
-        Allotted::Stop(Refusal::Request)
+    if !(settings(memory, s, table) & (encoding <= 3) & (token.named.offset == 0)) {
+        return Err(Refusal::Request);
     }
+    reach_near(table, memory, token)?;
+    let e = entry_at(table, token.named.number as usize);
+    if !within(1, e.permissions) {
+        return Err(Refusal::Right);
+    }
+    allot_child(s, table, e)
 }
 
 fn grant_execute_only(
-    mut s: StateWords,
+    s: &mut StateWords,
     table: &mut [u8],
     memory: u64,
     new: usize,
-    token: u64,
+    token: Token,
     encoding: u64,
-) -> Outcome
-    requires { allotted memory (state_as s) table.old (request.execute_only token encoding) new }
-    ensures { handed result table.new ≡ ruled (ended (state_as s) table.old (grant memory table.old (request.execute_only token encoding) [])) }
+) -> Result<Granted, Refusal>
+    requires { allotted memory (state_as s.old) table.old (request.execute_only token.word encoding) new }
+    ensures { handed s.new table.new result ≡ ruled (ended (state_as s.old) table.old (grant memory table.old (request.execute_only token.word encoding) [])) }
 {
-    let named = read(token);
-    let n = named.number as usize;
+    let n = token.named.number as usize;
     let e = entry_at(table, n);
-    grant_child(s, table, n, new, 0, e.length, 1, encoding)
+    let whole = Part {
+        offset: 0,
+        length: e.length,
+        permissions: 1,
+    };
+    grant_child(s, table, n, new, whole, encoding)
 }
 
 // A token for the segment with X alone.
 pub fn execute_only(
-    mut s: StateWords,
+    s: &mut StateWords,
     table: &mut [u8],
     memory: &[u8],
     token: u64,
     encoding: u64,
-) -> Outcome
-    ensures { ServedAlone (request.execute_only token encoding) s table.old memory.now result table.new memory.now }
+) -> Result<Granted, Refusal>
+    ensures { ServedAlone (request.execute_only token encoding) s.old table.old memory.now s.new table.new memory.now result }
 {
     let bytes = memory.len() as u64;
-    let r = check_execute_only(s, table, bytes, token, encoding);
-    match r {
-        Allotted::Stop(why) => refused(s, why),
-        Allotted::Number(new) => grant_execute_only(s, table, bytes, new, token, encoding),
-    }
+    let token = Token::from(token);
+    let new = check_execute_only(*s, table, bytes, token, encoding)?;
+    grant_execute_only(s, table, bytes, new, token, encoding)
 }

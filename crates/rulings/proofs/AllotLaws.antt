@@ -1,36 +1,38 @@
 -- A new number: the ways out of the search for it, and what sizes and settings say.
 -- Assumes nothing.
-use mathlib.Core.Path.{◌≡◌}
-use mathlib.Core.Bool.{Bool, true, not}
-use mathlib.Core.List.{List, ◌++◌}
+use mathlib.Core.Path.{◌≡◌, refl}
+use mathlib.Core.Bool.{Bool, true, false, not}
+use mathlib.Core.List.{List, [], ◌∷◌, ◌++◌}
+use Rattle.std.specs.Option.{ok_or}
 use Prim.Native.Nat.{ℕ, ◌+◌, ◌*◌, ◌/◌, ◌%◌, ◌≤◌, ◌<◌}
 use native.Mathlib.Omega.{arith}
 use lib.Dec.{eqb, leb}
 use lib.ListN.{length}
-use borrow.Author.Tests.{eqb-false, eqb-true, leb-true, ltb-true, ne_eqb, not-true}
+use borrow.Author.Tests.{eqb-false, eqb-true, leb-true, ltb-true, not-true}
 use Rattle.checks.specs.Holds.{request_holds}
+use Rattle.checks.specs.declared.refusal.Refusal.TheVariants.{Numbers}
+use Rattle.numbers.specs.Searches.{given}
 use Rattle.checks.proofs.ReachLaws.{reached_inside}
 use Rattle.machine.specs.Issuing.{new_number}
 use Rattle.machine.specs.Line.{is_ill, is_paged, line_of}
 use Rattle.machine.specs.Parts.{at, most_memory, size, State}
 use Rattle.machine.specs.Requests.{Request}
-use Rattle.machine.specs.Steps.{pass, stop}
-use Rattle.machine.specs.Stops.{at_numbers, places, settings, sizes}
+use Rattle.machine.specs.Steps.{pass, verdict}
+use Rattle.machine.specs.Stops.{number_left, places, settings, sizes}
 use Rattle.machine.proofs.Decided.{AllTrue, true_join, true-split}
 use Rattle.machine.proofs.Fuel.{number_first}
-use Rattle.rulings.specs.Allotments.{allot_verdict, Limits}
+use Rattle.rulings.specs.Allotments.{Allots, allot_verdict, Limits}
 use Rattle.rulings.specs.Rulings.{front_on}
 use Rattle.rulings.proofs.RulingLaws.{front-true, request-true}
 
--- the ways out, where n is the number found
-module _ (s : State) (t : List ℕ) (n : ℕ) (is : n ≡ new_number s t) where
-  pub allot_none : n ≡ 0 → allot_verdict s t ≡ stop at_numbers
-  unfolding allot_verdict
-  allot_none h = rw (← is, h)
-
-  pub allot-pass : (n ≡ 0 → ⊥) → allot_verdict s t ≡ pass
-  unfolding allot_verdict
-  allot-pass h = rw (← is, ne_eqb n 0 h)
+-- a number that is found passes, and with none it stops
+pub allots : (s : State) (t : List ℕ) → Allots s t (ok_or (given (new_number s t)) Numbers) (allot_verdict s t)
+unfolding allot_verdict
+allots s t = go (eqb (new_number s t) 0) refl
+  where
+    go : (b : Bool) → eqb (new_number s t) 0 ≡ b → Allots s t (ok_or (given (new_number s t)) Numbers) (verdict (number_left s t ∷ []))
+    go true q = rw q refl
+    go false q = rw q (refl, refl)
 
 -- where sizes and settings hold
 module _ (m : ℕ) (s : State) (t : List ℕ) (h : AllTrue (sizes m t ++ settings s t)) where

@@ -4,9 +4,10 @@ use mathlib.Core.Path.{◌≡◌, refl, sym, ◌∙◌, ap}
 use mathlib.Core.Bool.{Bool, true, false}
 use mathlib.Core.List.{List, [], ◌∷◌, ◌++◌, append_assoc}
 use Prim.Native.Nat.{ℕ, ◌≤◌, ◌<◌}
+use Rattle.std.specs.Prelude.{Result, Ok, Err}
 use borrow.Author.Tests.{le-leb, lt-leb}
 use Rattle.checks.specs.Holds.{request_holds}
-use Rattle.checks.specs.Refusals.{stop_as}
+use Rattle.checks.specs.Refusals.{checked_as, stop_as}
 use Rattle.checks.specs.declared.refusal.Refusal as code
 use Rattle.checks.specs.declared.refusal.Refusal.TheVariants.{Nonces}
 use Rattle.checks.proofs.VerdictLaws.{all_hold_lem, all_pass, all_stop, all_true, first_passes, first_stops, parts-pass}
@@ -18,19 +19,16 @@ use Rattle.machine.specs.Stops.{at_nonces, at_request, Check, checks, need_all, 
 use Rattle.machine.proofs.Decided.{AllTrue, and_then, needed, Passed, passed, passed-split, verdict_append}
 use Rattle.table.specs.States.{state_as}
 use Rattle.table.specs.declared.state.StateWords.{StateWords}
-use Rattle.rulings.specs.Rulings.{checked_as, effect_on, ended, first_on, front_on, granted_effect, granting, handed, inner_on, refusing, rest_on, ruled, Ruling, ruling_on, tokens_on, verdict_on}
-use Rattle.rulings.specs.declared.reply.Checked.{Checked}
-use Rattle.rulings.specs.declared.reply.Checked.TheVariants.{Pass, Stop}
-use Rattle.rulings.specs.declared.reply.Outcome.{Outcome}
+use Rattle.rulings.specs.Rulings.{effect_on, ended, first_on, front_on, granted_effect, granting, handed, inner_on, rest_on, ruled, Ruling, ruling_on, tokens_on, verdict_on}
 
 -- ---- what the code's checks come to
 
-module _ {v : Verdict} (r : Checked) (is : checked_as r ≡ v) where
-  pub told-stop : (why : code.Refusal) → r ≡ Stop why → v ≡ stop_as why
+module _ {v : Verdict} (r : Result Unit code.Refusal) (is : checked_as r ≡ v) where
+  pub told-stop : (why : code.Refusal) → r ≡ Err why → v ≡ stop_as why
   told-stop why h = sym is ∙ ap checked_as h
 
-  pub told-pass : r ≡ Pass → v ≡ pass
-  told-pass h = sym is ∙ ap checked_as h
+  pub told-pass : (z : Unit) → r ≡ Ok z → v ≡ pass
+  told-pass z h = sym is ∙ ap checked_as h
 
 -- ---- the verdict on a request, part by part
 
@@ -157,12 +155,12 @@ module _ (m : ℕ) (s : State) (t : List ℕ) (q : Request) (b : List ℕ) where
 
   -- ---- what the code's checks come to
 
-  module _ (r : Checked) (is : checked_as r ≡ verdict_on m s t q b) where
-    pub verdict-stop : (why : code.Refusal) → r ≡ Stop why → verdict_on m s t q b ≡ stop_as why
+  module _ (r : Result Unit code.Refusal) (is : checked_as r ≡ verdict_on m s t q b) where
+    pub verdict-stop : (why : code.Refusal) → r ≡ Err why → verdict_on m s t q b ≡ stop_as why
     verdict-stop why h = told-stop r is why h
 
-    pub verdict-pass : r ≡ Pass → verdict_on m s t q b ≡ pass
-    verdict-pass h = told-pass r is h
+    pub verdict-pass : (z : Unit) → r ≡ Ok z → verdict_on m s t q b ≡ pass
+    verdict-pass z h = told-pass r is z h
 
   -- ---- the decision
 
@@ -230,9 +228,9 @@ module _ (s : State) (t : List ℕ) (g : Grant) where
   pub spent-effect : spent < (book s t g).state.next → (ended s t g).effect ≡ nothing
   spent-effect h = ap (λ (d : Decision). d.effect) (ended-spent h)
 
-pub spent-ruled : (s : StateWords) (t : List ℕ) (g : Grant) → spent < (book (state_as s) t g).state.next → (r : Outcome) → r ≡ refusing s Nonces → handed r t ≡ ruled (ended (state_as s) t g)
-spent-ruled s t g h r e = ap (λ (r : Outcome). handed r t) e ∙ ap ruled (sym (ended-spent (state_as s) t g h))
+pub spent-ruled : (s : StateWords) (t : List ℕ) (g : Grant) → spent < (book (state_as s) t g).state.next → handed s t (Err Nonces) ≡ ruled (ended (state_as s) t g)
+spent-ruled s t g h = ap ruled (sym (ended-spent (state_as s) t g h))
 
-pub decided-stop : (m : ℕ) (s : StateWords) (t : List ℕ) (q : Request) (b : List ℕ) (why : code.Refusal) (r : Outcome) → r ≡ refusing s why → verdict_on m (state_as s) t q b ≡ stop_as why
-    → handed r t ≡ ruling_on m (state_as s) t q b
-decided-stop m s t q b why r e h = ap (λ (r : Outcome). handed r t) e ∙ sym (by_verdict m (state_as s) t q b (stop_as why) h)
+pub decided-stop : (m : ℕ) (s : StateWords) (t : List ℕ) (q : Request) (b : List ℕ) (why : code.Refusal) → verdict_on m (state_as s) t q b ≡ stop_as why
+    → handed s t (Err why) ≡ ruling_on m (state_as s) t q b
+decided-stop m s t q b why h = sym (by_verdict m (state_as s) t q b (stop_as why) h)

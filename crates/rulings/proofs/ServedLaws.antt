@@ -4,6 +4,7 @@ use mathlib.Core.Path.{◌≡◌, refl, sym, ◌∙◌, ap, ap₂}
 use mathlib.Core.Bool.{false}
 use mathlib.Core.List.{List, [], ◌∷◌, ◌++◌}
 use Prim.Native.Nat.{ℕ}
+use Rattle.std.specs.Prelude.{Result, Err}
 use lib.ListN.{length}
 use Rattle.checks.specs.Refusals.{refusal_as, stop_as}
 use Rattle.checks.specs.declared.refusal.Refusal as code
@@ -16,15 +17,16 @@ use Rattle.machine.specs.Stops.{at_request, lastly, need_all, nonces_left, Place
 use Rattle.machine.proofs.LastOfAll.{last_of_all}
 use Rattle.table.specs.States.{state_as}
 use Rattle.table.specs.declared.state.StateWords.{StateWords}
-use Rattle.rulings.specs.Rulings.{effect_on, handed, refusing, ruled, ruling_on, verdict_on}
-use Rattle.rulings.specs.Served.{before, call_as, Served, ServedAlone}
-use Rattle.rulings.specs.declared.reply.Outcome.{Outcome}
+use Rattle.rulings.specs.Rulings.{effect_on, handed, ruled, ruling_on, verdict_on}
+use Rattle.rulings.specs.Served.{call_as, Served, ServedAlone, standing}
+use Rattle.rulings.specs.declared.reply.Granted.{Granted}
 use Rattle.rulings.proofs.RulingLaws.{by_effect}
 
 -- ---- by the decision
 
-module _ {q : Request} {s : StateWords} {t m b : List ℕ} {r : Outcome} {t' m' b' : List ℕ} where
-  served_by : (d : Decision) → decision (before s t m) (call_as q b) ≡ d → handed r t' ≡ ruled d → m' ≡ memory_after d.effect m → b' ≡ buffer_after d.effect m b → Served q s t m b r t' m' b'
+module _ {q : Request} {s : StateWords} {t m b : List ℕ} {s' : StateWords} {t' m' b' : List ℕ} {r : Result Granted code.Refusal} where
+  served_by : (d : Decision) → decision (standing s t m) (call_as q b) ≡ d → handed s' t' r ≡ ruled d → m' ≡ memory_after d.effect m → b' ≡ buffer_after d.effect m b
+      → Served q s t m b s' t' m' b' r
   unfolding step answer
   served_by d e h g f = record {
     step = (λ i. record { state = (h i).state; table = (h i).table; memory = g i }) ∙ (λ i. record { state = (sym e i).state; table = (sym e i).table; memory = memory_after (sym e i).effect m });
@@ -32,11 +34,11 @@ module _ {q : Request} {s : StateWords} {t m b : List ℕ} {r : Outcome} {t' m' 
   }
 
   -- a request that makes nothing for the front of its buffer is served as it was decided
-  pub served : makes q ≡ false → handed r t' ≡ ruling_on (length m) (state_as s) t q b → m' ≡ memory_after (effect_on (length m) (state_as s) t q b) m
+  pub served : makes q ≡ false → handed s' t' r ≡ ruling_on (length m) (state_as s) t q b → m' ≡ memory_after (effect_on (length m) (state_as s) t q b) m
       → b' ≡ buffer_after (effect_on (length m) (state_as s) t q b) m b
-      → Served q s t m b r t' m' b'
+      → Served q s t m b s' t' m' b' r
   unfolding ruling_on effect_on
-  served none h g f = served_by (blind (before s t m) (call_as q b)) (last_of_all.others (before s t m) (call_as q b) none) h g f
+  served none h g f = served_by (blind (standing s t m) (call_as q b)) (last_of_all.others (standing s t m) (call_as q b) none) h g f
 
 -- ---- by the verdict
 
@@ -45,31 +47,31 @@ unfolding decide verdict_on
 by_verdict m s t q b v h = ap (λ (v : Verdict). settle v s t (grant m t q b)) h
 
 -- what is refused leaves all as it was
-pub served-stop : {q : Request} {s : StateWords} {t m b : List ℕ} {r : Outcome} (why : code.Refusal) → r ≡ refusing s why → verdict_on (length m) (state_as s) t q b ≡ stop_as why → Served q s t m b r t m b
-served-stop {q} {s} {t} {m} {b} why e h =
-    let d : blind (before s t m) (call_as q b) ≡ refused (state_as s) t (refusal_as why) = by_verdict (length m) (state_as s) t q b (stop_as why) h in
-    served_by (refused (state_as s) t (refusal_as why)) (ap (λ (d : Decision). finished (state_as s) t m b d) d) (ap (λ (r : Outcome). handed r t) e) refl refl
+pub served-stop : {q : Request} {s : StateWords} {t m b : List ℕ} (why : code.Refusal) → verdict_on (length m) (state_as s) t q b ≡ stop_as why → Served q s t m b s t m b (Err why)
+served-stop {q} {s} {t} {m} {b} why h =
+    let d : blind (standing s t m) (call_as q b) ≡ refused (state_as s) t (refusal_as why) = by_verdict (length m) (state_as s) t q b (stop_as why) h in
+    served_by (refused (state_as s) t (refusal_as why)) (ap (λ (d : Decision). finished (state_as s) t m b d) d) refl refl refl
 
 -- ---- a request that makes something for the front of its buffer, where the checks let it through
 
 through : (q : Request) (s : StateWords) (t m b : List ℕ) → verdict_on (length m) (state_as s) t q b ≡ pass
-    → decision (before s t m) (call_as q b) ≡ finished (state_as s) t m b (carried (state_as s) t (grant (length m) t q b))
+    → decision (standing s t m) (call_as q b) ≡ finished (state_as s) t m b (carried (state_as s) t (grant (length m) t q b))
 through q s t m b h = ap (λ (d : Decision). finished (state_as s) t m b d) (by_verdict (length m) (state_as s) t q b pass h)
 
 -- the last checks stop it
-pub served_late : {q : Request} {s : StateWords} {t m b : List ℕ} {r : Outcome} (why : code.Refusal) → r ≡ refusing s why → verdict_on (length m) (state_as s) t q b ≡ pass
+pub served_late : {q : Request} {s : StateWords} {t m b : List ℕ} (why : code.Refusal) → verdict_on (length m) (state_as s) t q b ≡ pass
     → verdict (lastly (grant (length m) t q b).effect.fill m b) ≡ stop_as why
-    → Served q s t m b r t m b
-served_late {q} {s} {t} {m} {b} why e h l = served_by (refused (state_as s) t (refusal_as why)) (through q s t m b h ∙ rw l) (ap (λ (r : Outcome). handed r t) e) refl refl
+    → Served q s t m b s t m b (Err why)
+served_late {q} {s} {t} {m} {b} why h l = served_by (refused (state_as s) t (refusal_as why)) (through q s t m b h ∙ rw l) refl refl refl
 
 -- or it is granted, and tells the length of what it made
-pub served-made : {q : Request} {s : StateWords} {t m b : List ℕ} {r : Outcome} {t' m' b' : List ℕ} → verdict_on (length m) (state_as s) t q b ≡ pass
+pub served-made : {q : Request} {s : StateWords} {t m b : List ℕ} {s' : StateWords} {t' m' b' : List ℕ} {r : Result Granted code.Refusal} → verdict_on (length m) (state_as s) t q b ≡ pass
     → let g : Grant = grant (length m) t q b in
     verdict (lastly g.effect.fill m b) ≡ pass
-    → handed r t' ≡ ruled (telling (told_length g.effect.fill m) (carried (state_as s) t g))
+    → handed s' t' r ≡ ruled (telling (told_length g.effect.fill m) (carried (state_as s) t g))
     → m' ≡ memory_after g.effect m
     → b' ≡ buffer_after g.effect m b
-    → Served q s t m b r t' m' b'
+    → Served q s t m b s' t' m' b' r
 served-made {q} {s} {t} {m} {b} h l e g f =
     let a : Grant = grant (length m) t q b in
     served_by (telling (told_length a.effect.fill m) (carried (state_as s) t a)) (through q s t m b h ∙ rw l) e g f
@@ -86,10 +88,10 @@ unfolding decide
 unread m s t q b h =
     ap₂ (λ (p : Places) (g : Grant). settle (verdict (need_all at_request (sizes m t ++ p.request) ++ ((p.after ++ p.tokens) ++ (p.rest ++ (nonces_left s t g ∷ []))))) s t g) h.places h.grant
 
-module _ {q : Request} {s : StateWords} {t m : List ℕ} {r : Outcome} {t' : List ℕ} (none : makes q ≡ false) (places : (b : List ℕ) → places (length m) (state_as s) t q b ≡ places (length m) (state_as s) t q [])
+module _ {q : Request} {s : StateWords} {t m : List ℕ} {s' : StateWords} {t' : List ℕ} {r : Result Granted code.Refusal} (none : makes q ≡ false) (places : (b : List ℕ) → places (length m) (state_as s) t q b ≡ places (length m) (state_as s) t q [])
     (grants : (b : List ℕ) → grant (length m) t q b ≡ grant (length m) t q []) where
   -- it is decided as if it brought none, and leaves the one that it brings
-  pub served_alone : {m' : List ℕ} → (grant (length m) t q []).effect.fill ≡ unfilled → handed r t' ≡ ruling_on (length m) (state_as s) t q [] → m' ≡ memory_after (effect_on (length m) (state_as s) t q []) m → ServedAlone q s t m r t' m'
+  pub served_alone : {m' : List ℕ} → (grant (length m) t q []).effect.fill ≡ unfilled → handed s' t' r ≡ ruling_on (length m) (state_as s) t q [] → m' ≡ memory_after (effect_on (length m) (state_as s) t q []) m → ServedAlone q s t m s' t' m' r
   unfolding ruling_on effect_on
   served_alone z h g b =
       let same : decide (length m) (state_as s) t q b ≡ decide (length m) (state_as s) t q [] = unread (length m) (state_as s) t q b (record { places = places b; grant = grants b }) in
@@ -100,6 +102,6 @@ module _ {q : Request} {s : StateWords} {t m : List ℕ} {r : Outcome} {t' : Lis
       left b = rw (grants b, z) refl
 
   -- and one that has no effect leaves memory too
-  pub served_quiet : (grant (length m) t q []).effect ≡ nothing → handed r t' ≡ ruling_on (length m) (state_as s) t q [] → ServedAlone q s t m r t' m
+  pub served_quiet : (grant (length m) t q []).effect ≡ nothing → handed s' t' r ≡ ruling_on (length m) (state_as s) t q [] → ServedAlone q s t m s' t' m r
   served_quiet z h =
       served_alone (ap (λ (f : Effect). f.fill) z) h (by_effect (λ (f : Effect). m ≡ memory_after f m) (length m) (state_as s) t q [] refl (rw z refl))

@@ -1,21 +1,18 @@
 -- What an operation hands back, in the machine's terms.
 -- Assumes nothing.
-use Rattle.std.specs.Prelude.{List, [], ◌∷◌, ◌++◌, ℕ}
-use Rattle.checks.specs.Refusals.{refusal_as, stop_as}
+use Rattle.std.specs.Prelude.{List, [], ◌∷◌, ◌++◌, Result, Ok, Err, ℕ}
+use Rattle.checks.specs.Refusals.{refusal_as}
 use Rattle.checks.specs.declared.refusal.Refusal.{Refusal}
 use Rattle.machine.specs.Operations as machine
 use Rattle.machine.specs.Operations.{carried, Decision, Effect, Grant, grant, granted}
 use Rattle.machine.specs.Parts.{State}
 use Rattle.machine.specs.Requests.{Request}
-use Rattle.machine.specs.Steps.{decide, pass, settle, turned_away, Verdict, verdict}
+use Rattle.machine.specs.Steps.{decide, settle, turned_away, Verdict, verdict}
 use Rattle.machine.specs.Stops.{at_request, checks, need_all, nonces_left, places, sizes}
 use Rattle.table.specs.States.{state_as}
 use Rattle.table.specs.declared.state.StateWords.{StateWords}
-use Rattle.rulings.specs.declared.reply.Checked.{Checked}
-use Rattle.rulings.specs.declared.reply.Checked.TheVariants.{Pass, Stop}
-use Rattle.rulings.specs.declared.reply.Outcome.{Outcome}
-use Rattle.rulings.specs.declared.reply.Reply.{Reply}
-use Rattle.rulings.specs.declared.reply.Reply.TheVariants.{Filled, Granted, Refused}
+use Rattle.rulings.specs.declared.reply.Granted.{Granted}
+use Rattle.rulings.specs.declared.reply.Granted.TheVariants.{Filled, Given}
 use Rattle.rulings.specs.declared.reply.Tokens.{Tokens}
 use Rattle.rulings.specs.declared.reply.Tokens.TheVariants.{None, One, Two}
 
@@ -26,27 +23,24 @@ tokens_as None = []
 tokens_as (One a) = a ∷ []
 tokens_as (Two a b) = a ∷ b ∷ []
 
-abbrev pub reply_as : Reply → machine.Reply
-reply_as (Granted ks d) = granted (tokens_as ks) d 0
-reply_as (Filled n) = granted [] 0 n
-reply_as (Refused why) = turned_away (refusal_as why)
+abbrev pub reply_as : Result Granted Refusal → machine.Reply
+reply_as (Ok (Given ks d)) = granted (tokens_as ks) d 0
+reply_as (Ok (Filled n)) = granted [] 0 n
+reply_as (Err why) = turned_away (refusal_as why)
 
--- a refusal, a grant that gives no token, and those that give one and two, as the code hands them back
-abbrev pub refusing : StateWords → Refusal → Outcome
-refusing s why = record { state = s; reply = Refused why }
+-- a grant that gives no token, and those that give one and two, as the code hands them back
+abbrev pub plainly : ℕ → Granted
+plainly d = Given None d
 
-abbrev pub plainly : StateWords → ℕ → Outcome
-plainly s d = record { state = s; reply = Granted None d }
+abbrev pub giving_one : ℕ → Granted
+giving_one a = Given (One a) 0
 
-abbrev pub giving_one : StateWords → ℕ → Outcome
-giving_one s a = record { state = s; reply = Granted (One a) 0 }
-
-abbrev pub giving_two : StateWords → ℕ → ℕ → Outcome
-giving_two s a b = record { state = s; reply = Granted (Two a b) 0 }
+abbrev pub giving_two : ℕ → ℕ → Granted
+giving_two a b = Given (Two a b) 0
 
 -- and one that fills so much of the buffer
-abbrev pub filling_so : StateWords → ℕ → Outcome
-filling_so s n = record { state = s; reply = Filled n }
+abbrev pub filling_so : ℕ → Granted
+filling_so n = Filled n
 
 -- ---- verdicts
 
@@ -69,11 +63,6 @@ front_on m s t q b = let p = places m s t q b in verdict (need_all at_request (s
 
 unfoldable pub inner_on : ℕ → State → List ℕ → Request → List ℕ → Verdict
 inner_on m s t q b = verdict (places m s t q b).rest
-
--- what the code's checks come to
-abbrev pub checked_as : Checked → Verdict
-checked_as (Stop why) = stop_as why
-checked_as Pass = pass
 
 -- ---- rulings
 
@@ -104,6 +93,6 @@ granted_effect m t q b = (grant m t q b).effect
 unfoldable pub effect_on : ℕ → State → List ℕ → Request → List ℕ → Effect
 effect_on m s t q b = (decide m s t q b).effect
 
--- what the code hands back, with the table that it leaves
-abbrev pub handed : Outcome → List ℕ → Ruling
-handed r t = record { state = state_as r.state; table = t; reply = reply_as r.reply }
+-- what the code hands back, with the state and the table that it leaves
+abbrev pub handed : StateWords → List ℕ → Result Granted Refusal → Ruling
+handed s t r = record { state = state_as s; table = t; reply = reply_as r }

@@ -6,21 +6,11 @@ use checks::refusal::Refusal;
 use numbers::numbers::new_number;
 use table::state::StateWords;
 
-// What the checks of a request come to that issues under a new number.
-#[derive(Clone, Copy)]
-pub enum Allotted {
-    Stop(Refusal),
-    Number(usize),
-}
-
-pub fn allot(s: StateWords, table: &[u8]) -> Allotted
+// The new number. `Limits` is asked of the state beside the table: a type of both would hold the loan of the
+// table, which the grant then writes.
+pub fn allot(s: StateWords, table: &[u8]) -> Result<usize, Refusal>
     requires { Limits (state_as s) table.now }
     ensures { Allots (state_as s) table.now result (allot_verdict (state_as s) table.now) }
 {
-    let new = new_number(s, table);
-    if new == 0 {
-        Allotted::Stop(Refusal::Numbers)
-    } else {
-        Allotted::Number(new)
-    }
+    new_number(s, table).ok_or(Refusal::Numbers)
 }

@@ -3,6 +3,7 @@
 use mathlib.Core.Path.{◌≡◌, refl, ap, ◌∙◌}
 use mathlib.Core.Bool.{true, ◌&&◌}
 use mathlib.Core.List.{List, []}
+use Rattle.std.specs.Prelude.{Ok}
 use Prim.Native.Nat.{ℕ, ◌/◌, ◌^◌, ◌≤◌, ◌<◌}
 use native.Mathlib.Omega.{arith}
 use lib.Dec.{leb, ltb}
@@ -15,11 +16,10 @@ use Rattle.machine.specs.Steps.{pass}
 use Rattle.machine.specs.Stops.{checks}
 use Rattle.machine.specs.Writes.{begin, opened, write}
 use Rattle.machine.proofs.Decided.{Passed}
-use Rattle.table.specs.Left.{begun_as, left_by}
-use Rattle.table.specs.States.{state_as}
+use Rattle.table.specs.Left.{left_as, left_by}
 use Rattle.table.specs.declared.state.StateWords.{StateWords}
 use Rattle.rulings.specs.Rulings.{granting, handed, plainly, rest_on, tokens_on, verdict_on}
-use Rattle.rulings.specs.declared.reply.Outcome.{Outcome}
+use Rattle.rulings.specs.declared.reply.Granted.{Granted}
 use Rattle.rulings.proofs.RulingLaws.{passed_on, request-true, token-passes}
 use Rattle.segments.proofs.SegmentLaws.{leaving}
 
@@ -44,8 +44,8 @@ module _ (m : ℕ) (s : State) (t : List ℕ) (k0 k1 ν : ℕ) where
       (omega arith, omega arith)
 
 -- what is handed back
-pub reset-grants : (m : ℕ) (s s' : StateWords) (t : List ℕ) (k0 k1 ν : ℕ) (r : Outcome) (t' : List ℕ)
-    → begun_as s' t' ≡ left_by (write 0 (opened (state_as s) t) (begin m k0 k1 ν)) → r ≡ plainly s' 0
-    → handed r t' ≡ granting m (state_as s) t (reset k0 k1 ν) []
+pub reset-grants : (m : ℕ) (s : State) (s' : StateWords) (t : List ℕ) (k0 k1 ν : ℕ) (r : Granted) (t' : List ℕ)
+    → left_as s' t' [] ≡ left_by (write 0 (opened s t) (begin m k0 k1 ν)) → r ≡ plainly 0
+    → handed s' t' (Ok r) ≡ granting m s t (reset k0 k1 ν) []
 unfolding granting
 reset-grants m s s' t k0 k1 ν r t' left done = rw done (ap leaving left)

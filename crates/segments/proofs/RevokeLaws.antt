@@ -1,8 +1,9 @@
 -- Revoke: the ways out of its checks, and what it leaves.
 -- Assumes nothing.
-use mathlib.Core.Path.{◌≡◌, refl, ap, ◌∙◌}
-use mathlib.Core.Bool.{true, ◌&&◌, cond}
-use mathlib.Core.List.{List, []}
+use mathlib.Core.Path.{◌≡◌, refl, sym, ap, ◌∙◌}
+use mathlib.Core.Bool.{Bool, true, ◌&&◌, cond}
+use mathlib.Core.List.{List, [], ◌∷◌}
+use Rattle.std.specs.Prelude.{Ok, Err}
 use Prim.Native.Nat.{ℕ, ◌+◌, ◌/◌, ◌≤◌, ◌<◌}
 use native.Mathlib.Omega.{arith}
 use lib.Dec.{eqb, leb}
@@ -17,6 +18,7 @@ use Rattle.checks.specs.Holds.{request_holds, settings_hold}
 use Rattle.checks.specs.Reached.{live_verdict}
 use Rattle.checks.specs.declared.refusal.Refusal.TheVariants.{Nonces}
 use Rattle.checks.proofs.ReachLaws.{reached_inside}
+use Rattle.machine.specs.Issuing.{other_nonce}
 use Rattle.machine.specs.Operations.{book, fresh, Grant, grant_revoke, named_entry, number_of}
 use Rattle.machine.specs.Parts.{at, size, spent, State}
 use Rattle.machine.specs.Requests.{revoke}
@@ -24,25 +26,26 @@ use Rattle.machine.specs.Steps.{memory_after, pass, stop, Verdict}
 use Rattle.machine.specs.Stops.{at_kind}
 use Rattle.machine.specs.Writes.{opened, reissue, write}
 use Rattle.machine.proofs.Decided.{Passed}
-use Rattle.issuing.specs.Issued.{issued_as}
-use Rattle.table.specs.Left.{left_by}
+use Rattle.table.specs.Left.{left_as, left_by}
 use Rattle.table.specs.States.{state_as}
 use Rattle.entering.specs.Nonces.{Finds, Issuable}
 use Rattle.entering.specs.declared.nonces.Found.{Found}
 use Rattle.table.specs.declared.state.StateWords.{StateWords}
-use Rattle.issuing.specs.declared.writes.Issued.{Issued}
-use Rattle.rulings.specs.Rulings.{ended, front_on, giving_one, handed, inner_on, refusing, ruled, tokens_on}
-use Rattle.rulings.specs.declared.reply.Outcome.{Outcome}
+use Rattle.rulings.specs.Rulings.{ended, front_on, giving_one, handed, inner_on, ruled, tokens_on}
+use Rattle.rulings.specs.declared.reply.Granted.{Granted}
 use Rattle.rulings.proofs.RulingLaws.{front, front_inner, front-passed, left_effect, left_ruled, spent-effect, spent-ruled}
 use Rattle.segments.proofs.SegmentLaws.{leaving}
 
 -- ---- all places
 
 module _ (m : ℕ) (s : State) (t : List ℕ) (k c : ℕ) where
-  -- place 1, with the token read as n
-  pub revoke-request : (n : Named) → n ≡ named k → (settings_hold m s t && leb c 3 && eqb n.offset 0) ≡ request_holds m s t (revoke k c) []
+  -- place 1, with the token read as n, as the code's test says
+  revoke-request : (n : Named) → n ≡ named k → (settings_hold m s t && leb c 3 && eqb n.offset 0) ≡ request_holds m s t (revoke k c) []
   unfolding settings_hold request_holds
   revoke-request n is = rw is
+
+  pub revoke-asked : (n : Named) {set b : Bool} → n ≡ named k → set ≡ settings_hold m s t → (set && leb c 3 && eqb n.offset 0) ≡ b → request_holds m s t (revoke k c) [] ≡ b
+  revoke-asked n is setting h = sym (revoke-request n is) ∙ rw setting at h
 
   pub revoke-token : {v : Verdict} → live_verdict m t k ≡ v → tokens_on m s t (revoke k c) [] ≡ v
   unfolding live_verdict tokens_on
@@ -83,26 +86,32 @@ revocable m s t k c h =
       next = leb-true s.next spent (search);
     }
 
--- ---- what is handed back, where the token is read as n, its entry as e, and the nonce that is found for f
+-- ---- what is handed back, where the token is read as n, its entry as e, and f is issued anew
 
-module _ (s : StateWords) (t : List ℕ) (k c : ℕ) (n : Named) (e f : Entry) (new : Found) (is : n ≡ named k) (there : e ≡ at t n.number) (anew : f ≡ fresh e 0) (found : Finds (state_as s) t n.number f new) where
+module _ (s : StateWords) (t : List ℕ) (k c : ℕ) (n : Named) (e f : Entry) (is : n ≡ named k) (there : e ≡ at t n.number) (anew : f ≡ fresh e 0) where
   abbrev g : Grant
   g = grant_revoke t (number_of k) c
 
-  next : (book (state_as s) t g).state.next ≡ new.nonce + 1
-  next = rw (found.nonce, anew, there, is)
+  next : (book (state_as s) t g).state.next ≡ other_nonce (state_as s) t n.number (dated f) + 1
+  next = rw (anew, there, is)
 
-  pub revoke-spent : (r : Outcome) → spent ≤ new.nonce → r ≡ refusing s Nonces → handed r t ≡ ruled (ended (state_as s) t g)
-  revoke-spent r h done = spent-ruled s t g (omega (arith, next)) r done
+  -- no nonce is left for it
+  module _ (none : other_nonce (state_as s) t n.number (dated f) ≡ spent) where
+    pub revoke-spent : handed s t (Err Nonces) ≡ ruled (ended (state_as s) t g)
+    revoke-spent = spent-ruled s t g (omega (arith, next, none))
 
-  pub revoke_stays : (memory : List ℕ) → spent ≤ new.nonce → memory ≡ memory_after (ended (state_as s) t g).effect memory
-  revoke_stays memory h = rw (spent-effect (state_as s) t g (omega (arith, next)))
+    pub revoke_stays : (memory : List ℕ) → memory ≡ memory_after (ended (state_as s) t g).effect memory
+    revoke_stays memory = rw (spent-effect (state_as s) t g (omega (arith, next, none)))
 
-  pub revoke-grants : (i : Issued) (r : Outcome) (t' : List ℕ)
-      → new.nonce < spent → issued_as i t' ≡ left_by (write c (opened (state_as s) t) (reissue n.number (dated f))) → r ≡ giving_one i.state i.token
-      → handed r t' ≡ ruled (ended (state_as s) t g)
-  revoke-grants i r t' h left done = left_ruled (state_as s) t g (omega (arith, next)) _ (rw done (ap leaving left ∙ rw (anew, there, is)))
+  -- or one is found
+  module _ (new : Found) (found : Finds (state_as s) t n.number f new) where
+    left : (book (state_as s) t g).state.next ≤ spent
+    left = omega (arith, next, found.nonce, found.left)
 
-  pub revoke_clears : (memory memory' : List ℕ) → new.nonce < spent → memory' ≡ sets memory e.base (replicate e.length 0)
-      → memory' ≡ memory_after (ended (state_as s) t g).effect memory
-  revoke_clears memory memory' h cleared = cleared ∙ rw (left_effect (state_as s) t g (omega (arith, next)), there, is)
+    pub revoke-grants : (s' : StateWords) (t' : List ℕ) (i : ℕ) (r : Granted)
+        → left_as s' t' (i ∷ []) ≡ left_by (write c (opened (state_as s) t) (reissue n.number (dated f))) → r ≡ giving_one i
+        → handed s' t' (Ok r) ≡ ruled (ended (state_as s) t g)
+    revoke-grants s' t' i r gave done = left_ruled (state_as s) t g left _ (rw done (ap leaving gave ∙ rw (anew, there, is)))
+
+    pub revoke_clears : (memory memory' : List ℕ) → memory' ≡ sets memory e.base (replicate e.length 0) → memory' ≡ memory_after (ended (state_as s) t g).effect memory
+    revoke_clears memory memory' cleared = cleared ∙ rw (left_effect (state_as s) t g left, there, is)

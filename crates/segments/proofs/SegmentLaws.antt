@@ -1,8 +1,10 @@
 -- What the operations on segments share.
 -- Assumes nothing.
-use mathlib.Core.Path.{◌≡◌, refl, ap, ◌∙◌}
+use mathlib.Core.Path.{◌≡◌, refl, ap, ◌∙◌, subst}
 use mathlib.Core.Bool.{Bool, true, false, ◌&&◌, cond}
 use mathlib.Core.List.{List}
+use Rattle.std.specs.Prelude.{Option, Some, None, Result, Ok, Err}
+use Rattle.std.specs.Option.{ok_or}
 use Prim.Native.Nat.{ℕ, ◌+◌, ◌*◌, ◌≤◌}
 use native.Mathlib.Omega.{arith}
 use lib.ListN.{length}
@@ -15,13 +17,23 @@ use Rattle.machine.proofs.TableLaws.{length-put}
 use Rattle.table.specs.Left.{Left, left_by}
 use Rattle.rulings.specs.Rulings.{Ruling}
 
--- two facts with one refusal, and four
+-- two facts with one refusal
 pub both_hold : (a b : Bool) (x y : Verdict) → cond a (cond b x y) y ≡ cond (a && b) x y
 both_hold true b x y = refl
 both_hold false b x y = refl
 
-pub four_hold : (a b c d : Bool) (x y : Verdict) → cond a (cond b (cond c (cond d x y) y) y) y ≡ cond (a && b && c && d) x y
-four_hold a b c d x y = both_hold a b _ y ∙ both_hold (a && b) c _ y ∙ both_hold (a && b && c) d x y
+-- a search that is told as an error where it finds nothing: what is known of what it gives
+module _ {A E : Type 0} (P : Option A → Type 0) (o : Option A) (e : E) {r : Result A E} (is : r ≡ ok_or o e) (p : P o) where
+  pub found_with : {x : A} → r ≡ Ok x → P (Some x)
+  found_with {x} h =
+      let some : o ≡ Some x = grind arith in
+      subst P some p
+
+  pub found-none : {d : E} → r ≡ Err d → P None × (d ≡ e)
+  found-none {d} h =
+      let none : o ≡ None = grind arith in
+      let same : d ≡ e = grind arith in
+      (subst P none p, same)
 
 -- what is handed back of what the writes left, where nothing is dropped
 abbrev pub leaving : Left → Ruling

@@ -3,66 +3,66 @@
 // paper 1 of 02 has it.
 #![tactic(auto)]
 
-use operations::state::State;
-use rulings::reply::{Outcome, Reply, Tokens, refusal_of};
-use rulings::request::Way;
+use operations::state::{Outcome, State};
+use rulings::reply::refusal_of;
+use rulings::request::{Access, Create, Derive, Reset, Way};
 use std::io;
 use table::state::StateWords;
 
-// The state that a request handed back.
-fn after(r: Outcome) -> State {
-    let words = r.state;
-    State { words }
-}
-
 // Prints a case's line, and hands the state on.
 fn shown(rt: &impl Print, case: u64, r: Outcome) -> io::Result<State> {
-    let reply = r.reply;
-    let refusal = refusal_of(reply);
+    let refusal = refusal_of(r.reply);
     println!(rt; "{case} {refusal}")?;
-    Ok(after(r))
+    Ok(r.state)
+}
+
+// A read of as many bytes as the buffer has.
+fn read(
+    s: State,
+    table: &[u8],
+    memory: &mut [u8],
+    buffer: &mut [u8],
+    token: u64,
+    task: u64,
+) -> Outcome {
+    let request = Access {
+        way: Way::Read,
+        token,
+        task,
+        minute: 0,
+    };
+    s.access(table, memory, buffer, &table[..0], request)
 }
 
 // A read of twelve bytes, and of one.
 fn read_twelve(s: State, table: &[u8], memory: &mut [u8], token: u64) -> Outcome {
     let mut buffer = [0u8; 12];
-    s.access(
-        Way::Read,
-        table,
-        memory,
-        &mut buffer,
-        &table[..0],
-        token,
-        0,
-        0,
-    )
+    read(s, table, memory, &mut buffer, token, 0)
 }
 
 fn read_one(s: State, table: &[u8], memory: &mut [u8], token: u64, task: u64) -> Outcome {
     let mut buffer = [0u8; 1];
-    s.access(
-        Way::Read,
-        table,
-        memory,
-        &mut buffer,
-        &table[..0],
-        token,
-        task,
-        0,
-    )
+    read(s, table, memory, &mut buffer, token, task)
 }
 
-// The first token of an answer.
-fn token_in(r: Outcome) -> u64 {
-    let reply = r.reply;
-    match reply {
-        Reply::Granted { tokens, dropped: _ } => match tokens {
-            Tokens::None => 0,
-            Tokens::One(token) => token,
-            Tokens::Two(token, _) => token,
-        },
-        Reply::Filled { length: _ } => 0,
-        Reply::Refused(_) => 0,
+// A child of the root's first bytes, with R.
+fn child(s: State, table: &mut [u8], memory: &[u8], length: u64) -> Outcome {
+    let request = Derive {
+        token: 0,
+        offset: 0,
+        length,
+        permissions: 4,
+        encoding: 0,
+    };
+    s.derive(table, memory, request)
+}
+
+// The first token of an answer; 0, the root's, if it has none. (`traps` has it too, and `read_one`: no program
+// stands on another.)
+fn first_token(r: Outcome) -> u64 {
+    match r.reply {
+        Ok(granted) => granted.first().unwrap_or(0),
+        Err(_) => 0,
     }
 }
 
@@ -76,7 +76,15 @@ fn reads(rt: &impl Print, s: State, table: &[u8], memory: &mut [u8]) -> io::Resu
 
 // Cases 7 to 11.
 fn locked(rt: &impl Print, s: State, table: &mut [u8], memory: &mut [u8]) -> io::Result<State> {
-    let s = shown(rt, 7, s.create(table, memory, 0, 0, 4096, 0, 7, 0))?;
+    let request = Create {
+        token: 0,
+        task: 0,
+        length: 4096,
+        user: 0,
+        permissions: 7,
+        encoding: 0,
+    };
+    let s = shown(rt, 7, s.create(table, memory, request))?;
     let s = shown(rt, 8, s.lock(table, memory, 0, 0))?;
     let s = shown(rt, 9, s.lock(table, memory, 0, 7))?;
     let s = shown(rt, 10, read_one(s, table, memory, 0, 8))?;
@@ -108,12 +116,17 @@ fn session(rt: &impl Print, table: &mut [u8], memory: &mut [u8]) -> io::Result<(
             total: 0,
         },
     };
-    let start = blank.reset(table, memory, 0, 0, 1);
-    let s = reads(rt, after(start), table, memory)?;
-    let derived = s.derive(table, memory, 0, 0, 65535, 4, 0);
-    let token = token_in(derived);
+    let request = Reset {
+        key0: 0,
+        key1: 0,
+        first_nonce: 1,
+    };
+    let start = blank.reset(table, memory, request);
+    let s = reads(rt, start.state, table, memory)?;
+    let derived = child(s, table, memory, 65535);
+    let token = first_token(derived);
     let s = shown(rt, 5, derived)?;
-    let s = shown(rt, 6, s.derive(table, memory, 0, 0, 65536, 4, 0))?;
+    let s = shown(rt, 6, child(s, table, memory, 65536))?;
     let s = locked(rt, s, table, memory)?;
     revoked(rt, s, table, memory, token)
 }

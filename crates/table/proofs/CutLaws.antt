@@ -2,6 +2,7 @@
 -- Assumes nothing.
 use Rattle.std.proofs.Common.{◌≡◌, ℕ, ◌+◌, ◌*◌, ◌/◌, ◌%◌, ◌^◌, ◌<◌, ◌≤◌, Bool, true, false, not, ◌&&◌, eqb, ltb, leb, List, [], ◌∷◌, length, get_or, take, drop, replicate, sym, refl, ap, ◌∙◌, mod-lt, div-one, arith, pow_pos, ltb-true, le-ltb, lt-ltb, eq-eqb, ne_eqb, eqb-true, leb-true}
 use borrow.Author.Tests.{eqb-false, not-true}
+use Rattle.std.specs.Int.{from_be_bytes, from_le_bytes, w16, w32}
 use Rattle.bits.specs.Bytes.{number}
 use Rattle.bits.specs.Fields.{pack, unpack, Fit}
 use Rattle.bits.proofs.ByteLaws.{by_elements}
@@ -27,6 +28,18 @@ second a b c d e f g h hi up q ha hb hc = omega arith
 third : (a b c d e f g h r x y0 y1 z0 z1 z2 z3 : ℕ) → r ≡ a → x ≡ b → y0 ≡ c → y1 ≡ d → z0 ≡ e → z1 ≡ f → z2 ≡ g → z3 ≡ h
     → r * 2 ^ 56 + x * 2 ^ 48 + (y0 * 2 ^ 40 + y1 * 2 ^ 32 + (z0 * 2 ^ 24 + z1 * 2 ^ 16 + z2 * 2 ^ 8 + z3)) ≡ pack (replicate 8 8) (a ∷ b ∷ c ∷ d ∷ e ∷ f ∷ g ∷ h ∷ [])
 third a b c d e f g h r x y0 y1 z0 z1 z2 z3 ha hb hc hd he hf hg hh = omega arith
+
+-- numbers that the library reads of bytes, the high byte first or the low byte first
+pub big_four : (a b c d n : ℕ) → a < 256 → b < 256 → c < 256 → d < 256 → n ≡ from_be_bytes w32 (a ∷ b ∷ c ∷ d ∷ [])
+    → (n < 2 ^ 32) × ((n ≡ pack (replicate 4 8) (a ∷ b ∷ c ∷ d ∷ [])) × ((n / 256 ≡ pack (replicate 3 8) (a ∷ b ∷ c ∷ [])) × (n % 256 ≡ d)))
+big_four a b c d n ha hb hc hd q = (omega arith, (omega arith, (omega arith, omega arith)))
+
+pub low_two : (a b n : ℕ) → a < 256 → b < 256 → n ≡ from_le_bytes w16 (a ∷ b ∷ []) → (n % 256 ≡ a) × ((n / 256 ≡ b) × (n < 2 ^ 16))
+low_two a b n ha hb q = (omega arith, (omega arith, omega arith))
+
+pub low_four : (a b c d n : ℕ) → a < 256 → b < 256 → c < 256 → d < 256 → n ≡ from_le_bytes w32 (a ∷ b ∷ c ∷ d ∷ [])
+    → (n < 2 ^ 32) × ((n % 256 ≡ a) × ((n / 256 % 256 ≡ b) × ((n / 65536 % 256 ≡ c) × (n / 16777216 ≡ d))))
+low_four a b c d n ha hb hc hd q = (omega arith, (omega arith, (omega arith, (omega arith, omega arith))))
 
 module _ (s : List ℕ) (l : length s ≡ 32) (v : Cut) where
   abbrev i : ℕ → ℕ

@@ -1,14 +1,14 @@
 // What a walk up a line needs of an entry, cut of its 32 bytes so that no byte is read twice: then
 // the compiler loads each part by itself, and a parent's place is one load away.
-ghost use Rattle.std.specs.Prelude.{◌≡◌, ◌+◌, ◌*◌, ◌/◌, ◌%◌, ◌^◌, ◌<◌, ◌≤◌, true, [], ◌∷◌, length, replicate};
+ghost use Rattle.std.specs.Prelude.{◌≡◌, ◌+◌, ◌/◌, ◌%◌, ◌≤◌, true, length};
 ghost use Rattle.bits.specs.Bytes.{number};
-ghost use Rattle.bits.specs.Fields.{pack};
 ghost use Rattle.layout.specs.Entry.{entry_of, words_number};
 ghost use Rattle.machine.specs.Parts.{at};
 ghost use Rattle.table.specs.Cuts.{Above, Bounded, cut_words, passes};
 
+use crate::entries::part_at;
 use bits::word::get;
-use std::num::wrapping_sub_u64;
+use layout::entry::{DIRECT, INDIRECT};
 
 // The parts in the order of their bytes, as an indirect entry has them: the first word (a); high bits
 // of the parent's number (hi); 32 times the rest of it, which is the parent's place in the table, and
@@ -27,46 +27,19 @@ pub struct Cut {
     pub d: u64,
 }
 
-fn four(a: u8, b: u8, c: u8, d: u8) -> u64
-    ensures value { (result ≡ pack (replicate 4 8) (a ∷ b ∷ c ∷ d ∷ [])) × (result < 2 ^ 32) }
-    ensures result_value { (result / 256 ≡ pack (replicate 3 8) (a ∷ b ∷ c ∷ [])) × (result % 256 ≡ d) }
-{
-    (((a as u64) * 256 + (b as u64)) * 256 + (c as u64)) * 256 + (d as u64)
-}
-
-// The low byte first: parts that are only to be zeros need no swap.
-fn low_two(a: u8, b: u8) -> u64
-    ensures { (result % 256 ≡ a) × ((result / 256 ≡ b) × (result < 2 ^ 16)) }
-{
-    (a as u64) + (b as u64) * 256
-}
-
-fn low_four(a: u8, b: u8, c: u8, d: u8) -> u64
-    ensures result_value { (result % 256 ≡ a) × ((result / 256 % 256 ≡ b) × ((result / 65536 % 256 ≡ c) × (result / 16777216 ≡ d))) }
-    ensures upper_bound { result < 2 ^ 32 }
-{
-    (a as u64) + (b as u64) * 256 + (c as u64) * 65536 + (d as u64) * 16777216
-}
-
-fn one(a: u8) -> u64
-    ensures { (result ≡ a) × (result < 2 ^ 8) }
-{
-    a as u64
-}
-
 // The 32 bytes of an entry, in parts.
-fn read_cut(part: &[u8]) -> Cut
-    requires { length part.now ≡ 32 }
+fn read_cut(part: &[u8; 32]) -> Cut
     ensures { Bounded result × (words_number (cut_words result) ≡ number 32 part.now) }
 {
     Cut {
         a: get(&part[0..8]),
-        hi: one(part[8]),
-        up: four(part[9], part[10], part[11], part[12]),
-        len: four(part[13], part[14], part[15], part[16]),
-        x: one(part[17]),
-        y: low_two(part[18], part[19]),
-        z: low_four(part[20], part[21], part[22], part[23]),
+        hi: u64::from(part[8]),
+        up: u64::from(u32::from_be_bytes([part[9], part[10], part[11], part[12]])),
+        len: u64::from(u32::from_be_bytes([part[13], part[14], part[15], part[16]])),
+        x: u64::from(part[17]),
+        // The low byte first: parts that are only to be zeros need no swap.
+        y: u64::from(u16::from_le_bytes([part[18], part[19]])),
+        z: u64::from(u32::from_le_bytes([part[20], part[21], part[22], part[23]])),
         d: get(&part[24..32]),
     }
 }
@@ -76,8 +49,7 @@ pub(crate) fn cut_at(table: &[u8], byte: usize) -> Cut
     requires { (byte % 32 ≡ 0) × (byte + 32 ≤ length table.now) }
     ensures { Bounded result × (entry_of (words_number (cut_words result)) ≡ at table.now (byte / 32)) }
 {
-    let end = byte + 32;
-    read_cut(&table[byte..end])
+    read_cut(part_at(table, byte))
 }
 
 // The entry is indirect and well-formed, and its parent's number is in a table of so many bytes.
@@ -86,7 +58,7 @@ pub(crate) fn passes(memory: u64, room: u64, c: Cut) -> bool
 {
     let base = (c.a >> 29) % (1 << 32);
     let length = c.len / 32;
-    (c.a >> 61 == 2)
+    (c.a >> 61 == INDIRECT as u64)
         & ((c.a >> 27) % 4 == 1)
         & (c.a % (1 << 11) == 0)
         & (c.hi == 0)
@@ -106,8 +78,8 @@ pub(crate) fn passes(memory: u64, room: u64, c: Cut) -> bool
 pub(crate) fn above(p: Cut, c: Cut) -> bool
     ensures { result ≡ true → Above p c }
 {
-    let tag = (c.a >> 11) % (1 << 16) * 4294967296;
-    let rest = wrapping_sub_u64(p.d % (1 << 48), tag);
-    let from_direct = wrapping_sub_u64(p.a, 1 << 61);
+    let tag = (c.a >> 11) % (1 << 16) * (1 << 32);
+    let rest = (p.d % (1 << 48)).wrapping_sub(tag);
+    let from_direct = p.a.wrapping_sub((DIRECT as u64) << 61);
     (from_direct < 1 << 62) & (rest < c.d % (1 << 32))
 }

@@ -7,14 +7,13 @@ ghost use Rattle.table.specs.Lines.{line_as};
 use crate::cut::{above, cut_at, passes};
 use crate::entries::{entry_at, has_tag, words_at};
 use forms::form::ill_formed;
-use layout::entry::{Entry, kind_of};
-use tokens::token::Encoding1;
+use layout::entry::{DIRECT, Entry, FREE, PAGED, kind_of};
+use tokens::token::{Encoding1, TokenEncoding};
 
-// What a walk up a line ends at: the owner, the entry that holds a missing link, or an ill-formed
-// entry. It does not start at an entry that is paged out, and meets none.
+// Why a walk up a line comes to no owner: the number of the entry that holds a missing link, or of an
+// ill-formed one. It does not start at an entry that is paged out, and meets none.
 #[derive(Clone, Copy)]
-pub enum Line {
-    Owner(usize),
+pub enum Broken {
     Dead(usize),
     Ill(usize),
 }
@@ -33,7 +32,7 @@ fn links(p: Entry, e: Entry) -> bool
 {
     let named = Encoding1::unpacked(e.parent);
     let tagged = has_tag(p, named.tag);
-    (p.kind != 0) & (p.kind != 3) & tagged & (p.nonce < e.nonce)
+    (p.kind != FREE) & (p.kind != PAGED) & tagged & (p.nonce < e.nonce)
 }
 
 // The link of the entry e to its parent holds.
@@ -54,12 +53,13 @@ pub fn is_paged(table: &[u8], n: usize) -> bool
     requires { 32 * n + 32 ≤ length table.now }
     ensures { result ≡ is_paged (at table.now n) }
 {
-    kind_of(words_at(table, n)) == 3
+    kind_of(words_at(table, n)) == PAGED
 }
 
-// The end of the line of entry n, in a memory of so many bytes, whatever the entries are.
+// The end of the line of entry n, in a memory of so many bytes, whatever the entries are. That it is not
+// paged out is said of the number beside its table, as its bound is (`entries::part_at`).
 #[tactic(auto, using(crate::proofs::LineLaws::walks))]
-fn trace(table: &[u8], memory: u64, n: usize) -> Line
+fn trace(table: &[u8], memory: u64, n: usize) -> Result<usize, Broken>
     requires n_in_bounds { 32 * n + 32 ≤ length table.now }
     requires n_value { is_paged (at table.now n) ≡ false }
     ensures result_value { line_as result ≡ line_of memory table.now n }
@@ -69,37 +69,34 @@ fn trace(table: &[u8], memory: u64, n: usize) -> Line
     loop {
         let e = entry_at(table, k);
         if ill_formed(memory, e) {
-            return Line::Ill(k);
+            return Err(Broken::Ill(k));
         }
-        if e.kind == 1 {
-            return Line::Owner(k);
+        if e.kind == DIRECT {
+            return Ok(k);
         }
-        if linked(table, e) {
-            k = parent_number(e) as usize;
-        } else {
-            return Line::Dead(k);
+        if !linked(table, e) {
+            return Err(Broken::Dead(k));
         }
+        k = parent_number(e) as usize;
     }
 }
 
 // The same, quick where entry n is direct.
 #[tactic(auto, using(crate::proofs::LineLaws::own_ill, crate::proofs::LineLaws::own_owner))]
-fn ended(table: &[u8], memory: u64, n: usize) -> Line
+fn ended(table: &[u8], memory: u64, n: usize) -> Result<usize, Broken>
     requires n_in_bounds { 32 * n + 32 ≤ length table.now }
     requires n_value { is_paged (at table.now n) ≡ false }
     ensures result_value { line_as result ≡ line_of memory table.now n }
     ensures result_in_bounds { 32 * end_of (line_as result) + 32 ≤ length table.now }
 {
     let e = entry_at(table, n);
-    if e.kind == 1 {
-        if ill_formed(memory, e) {
-            Line::Ill(n)
-        } else {
-            Line::Owner(n)
-        }
-    } else {
-        trace(table, memory, n)
+    if e.kind != DIRECT {
+        return trace(table, memory, n);
     }
+    if ill_formed(memory, e) {
+        return Err(Broken::Ill(n));
+    }
+    Ok(n)
 }
 
 // How far the line of entry n goes up by entries that are well-formed and linked, each read once:
@@ -128,7 +125,7 @@ fn climb(table: &[u8], memory: u64, n: usize) -> usize
 }
 
 // The end of the line of entry n, in a memory of so many bytes.
-pub fn walk(table: &[u8], memory: u64, n: usize) -> Line
+pub fn walk(table: &[u8], memory: u64, n: usize) -> Result<usize, Broken>
     requires n_in_bounds { 32 * n + 32 ≤ length table.now }
     requires n_value { is_paged (at table.now n) ≡ false }
     ensures result_value { line_as result ≡ line_of memory table.now n }

@@ -1,31 +1,23 @@
 // Tags: SipHash-2-4 over an entry and its number.
-ghost use Rattle.std.specs.Prelude.{◌≡◌, [], ◌∷◌, ◌/◌, ◌^◌};
-ghost use Rattle.bits.specs.Fields.{pack};
+ghost use Rattle.std.specs.Prelude.{◌≡◌};
 ghost use Rattle.layout.specs.Entry.{dated, entry_number, entry_of, Laid, words_number};
 ghost use Rattle.layout.specs.Tag.{retag, TagFor};
 
 use bits::siphash::{compress, finish, start};
 use bits::word::swapped;
 use layout::entry::Words;
+use layout::fields::three_fields;
 
-// The last word of an entry with another tag and nonce, its low 48 bits.
-fn with_tag(word: u64, tag: u16, nonce: u32) -> u64
-    ensures { result ≡ pack (16 ∷ 16 ∷ 32 ∷ []) (word / 2 ^ 48 ∷ tag ∷ nonce ∷ []) }
-{
-    ((word >> 48) << 48) + ((tag as u64) << 32) + (nonce as u64)
-}
-
-// The words of the same entry with another tag and nonce.
+// The words of the same entry with another tag and nonce. That it has a layout is asked, and no type of its
+// own: words that are read need have none, and such a type would be made at an issue to be taken apart here.
 #[tactic(auto, using(crate::proofs::RetagLaws::stamp_words))]
 pub fn stamped(w: Words, tag: u16, nonce: u32) -> Words
     requires { Laid (entry_of (words_number w)).kind }
     ensures { words_number result ≡ entry_number (retag (dated (entry_of (words_number w)) nonce) tag) }
 {
     Words {
-        a: w.a,
-        b: w.b,
-        c: w.c,
-        d: with_tag(w.d, tag, nonce),
+        d: three_fields::<16, 32>(w.d >> 48, u64::from(tag), u64::from(nonce)),
+        ..w
     }
 }
 
@@ -50,7 +42,9 @@ pub struct Tags {
 }
 
 // The tags of two entries under their numbers, word by word by turns: a processor then works on both
-// hashes at once, where each step of one waits for the last.
+// hashes at once, where each step of one waits for the last. (One function for any number of entries
+// would be no plainer: two loops over arrays, with what each hash has taken in as their invariants, in
+// place of ten calls in a row.)
 pub fn two_tags(k0: u64, k1: u64, w: Words, number: u64, v: Words, other: u64) -> Tags
     ensures { TagFor k0 k1 w number result.first × TagFor k0 k1 v other result.second }
 {

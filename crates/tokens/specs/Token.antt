@@ -1,10 +1,8 @@
 -- Tokens (01, "Tokens: Table 1"). From the top bit: encoding (2 bits), tag (16), number, offset.
 -- Assumes nothing.
-use Rattle.std.specs.Prelude.{Bool, true, false, ◌&&◌, List, [], ◌∷◌, ℕ, ◌+◌, ◌^◌, ◌/◌, ◌%◌, ltb, get_or}
+use Rattle.std.specs.Prelude.{Bool, cond, ◌&&◌, Option, Some, None, List, [], ◌∷◌, ℕ, ◌+◌, ◌^◌, ◌/◌, ◌%◌, ltb, get_or}
 use Rattle.bits.specs.Fields.{pack, Fit}
 use Rattle.tokens.specs.declared.token.Named.{Named}
-use Rattle.tokens.specs.declared.token.Packing.{Packing}
-use Rattle.tokens.specs.declared.token.Packing.TheVariants.{Token, TooWide}
 
 -- "The number and offset widths belong to the encoding itself: 0 has 14 and 32, 1 has 46 and 0, 2 has 30 and 16, 3 has 22 and 24."
 abbrev pub number_width : ℕ → ℕ
@@ -50,9 +48,5 @@ named t = named_as (encoding_of t) t
 abbrev pub fits_as : ℕ → Named → Bool
 fits_as e n = ltb e 4 && ltb n.tag (2 ^ 16) && ltb n.number (2 ^ number_width e) && ltb n.offset (2 ^ offset_width e)
 
-abbrev pick_packing : Bool → Packing → Packing → Packing
-pick_packing true a b = a
-pick_packing false a b = b
-
-unfoldable pub packing : ℕ → Named → Packing
-packing e n = pick_packing (fits_as e n) (Token (token e n)) TooWide
+unfoldable pub packing : ℕ → Named → Option ℕ
+packing e n = cond (fits_as e n) (Some (token e n)) None

@@ -2,4 +2,5 @@
 #![tactic(auto)]
 
 pub mod permissions;
+pub mod read;
 pub mod token;

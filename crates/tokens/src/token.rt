@@ -1,8 +1,8 @@
 // Tokens (Table 1): from the top bit the encoding (2 bits), the tag (16), the number and the
 // offset. Each encoding is a type, to which the widths of its number and its offset belong.
-ghost use Rattle.std.specs.Prelude.{◌≡◌, ◌&&◌, ◌+◌, ◌^◌, ◌≤◌, ◌<◌, ltb};
+ghost use Rattle.std.specs.Prelude.{◌≡◌, ◌&&◌, ℕ, ◌+◌, ◌^◌, ◌≤◌, ◌<◌, true, ltb, refl};
 ghost use Rattle.bits.specs.Fields.{Fit};
-ghost use Rattle.tokens.specs.Token.{encoding_of, fits_as, named, named_as, named_in, NamedFits, packing, token, token_fields, token_in, token_widths};
+ghost use Rattle.tokens.specs.Token.{encoding_of, fits_as, named, named_as, named_in, NamedFits, number_width, offset_width, packing, token, token_fields, token_in, token_widths};
 
 // What a token names: an entry, by its tag and number, and an offset.
 #[derive(Clone, Copy)]
@@ -10,13 +10,6 @@ pub struct Named {
     pub tag: u64,
     pub number: u64,
     pub offset: u64,
-}
-
-// What packing gives: the token, or that some part is too wide for its field.
-#[derive(Clone, Copy)]
-pub enum Packing {
-    Token(u64),
-    TooWide,
 }
 
 // The encodings differ in two widths alone, the number's and the offset's, which are 46 together.
@@ -49,128 +42,152 @@ fn unpacked_in(number: u64, offset: u64, t: u64) -> Named
     }
 }
 
-// Encoding 0: a 14-bit number and a 32-bit offset.
-#[derive(Clone, Copy)]
-pub struct Encoding0 {}
+// An encoding (01: "The number and offset widths belong to the encoding itself"): a type with the widths of the
+// number and the offset as constants, and with what packs and unpacks a token.
+pub trait TokenEncoding {
+    ghost ENCODING: { ℕ };
 
-impl Encoding0 {
-    pub const ENCODING: u64 = 0;
+    ghost NUMBER_WIDTH: { ℕ };
 
-    pub const NUMBER_WIDTH: u64 = 14;
+    ghost OFFSET_WIDTH: { ℕ };
 
-    pub const OFFSET_WIDTH: u64 = 32;
+    const ENCODING: u64;
 
-    pub fn fits(n: Named) -> bool
-        ensures { result ≡ fits_as 0 n }
+    const NUMBER_WIDTH: u64;
+
+    const OFFSET_WIDTH: u64;
+
+    // It is one of 01's four, with the widths that it has there.
+    ghost known: { ltb ENCODING 4 ≡ true };
+
+    ghost number_is: { NUMBER_WIDTH ≡ number_width ENCODING };
+
+    ghost offset_is: { OFFSET_WIDTH ≡ offset_width ENCODING };
+
+    ghost shared: { NUMBER_WIDTH + OFFSET_WIDTH ≡ 46 };
+
+    final fn fits(n: Named) -> bool
+        ensures { result ≡ fits_as ENCODING n }
     {
         fits_in(Self::NUMBER_WIDTH, Self::OFFSET_WIDTH, n)
     }
 
-    pub fn packed(n: Named) -> u64
-        requires { NamedFits 0 n }
-        ensures { result ≡ token 0 n }
+    final fn packed(n: Named) -> u64
+        requires { NamedFits ENCODING n }
+        ensures { result ≡ token ENCODING n }
     {
         packed_in(Self::NUMBER_WIDTH, Self::OFFSET_WIDTH, Self::ENCODING, n)
     }
 
-    pub fn unpacked(t: u64) -> Named
-        ensures { result ≡ named_as 0 t }
+    final fn unpacked(t: u64) -> Named
+        ensures { result ≡ named_as ENCODING t }
     {
         unpacked_in(Self::NUMBER_WIDTH, Self::OFFSET_WIDTH, t)
     }
+}
+
+// Encoding 0: a 14-bit number and a 32-bit offset.
+#[derive(Clone, Copy)]
+pub struct Encoding0;
+
+impl TokenEncoding for Encoding0 {
+    ghost ENCODING = { 0 };
+
+    ghost NUMBER_WIDTH = { 14 };
+
+    ghost OFFSET_WIDTH = { 32 };
+
+    const ENCODING: u64 = 0;
+
+    const NUMBER_WIDTH: u64 = 14;
+
+    const OFFSET_WIDTH: u64 = 32;
+
+    ghost known = { refl };
+
+    ghost number_is = { refl };
+
+    ghost offset_is = { refl };
+
+    ghost shared = { refl };
 }
 
 // Encoding 1: a 46-bit number and a 0-bit offset.
 #[derive(Clone, Copy)]
-pub struct Encoding1 {}
+pub struct Encoding1;
 
-impl Encoding1 {
-    pub const ENCODING: u64 = 1;
+impl TokenEncoding for Encoding1 {
+    ghost ENCODING = { 1 };
 
-    pub const NUMBER_WIDTH: u64 = 46;
+    ghost NUMBER_WIDTH = { 46 };
 
-    pub const OFFSET_WIDTH: u64 = 0;
+    ghost OFFSET_WIDTH = { 0 };
 
-    pub fn fits(n: Named) -> bool
-        ensures { result ≡ fits_as 1 n }
-    {
-        fits_in(Self::NUMBER_WIDTH, Self::OFFSET_WIDTH, n)
-    }
+    const ENCODING: u64 = 1;
 
-    pub fn packed(n: Named) -> u64
-        requires { NamedFits 1 n }
-        ensures { result ≡ token 1 n }
-    {
-        packed_in(Self::NUMBER_WIDTH, Self::OFFSET_WIDTH, Self::ENCODING, n)
-    }
+    const NUMBER_WIDTH: u64 = 46;
 
-    pub fn unpacked(t: u64) -> Named
-        ensures { result ≡ named_as 1 t }
-    {
-        unpacked_in(Self::NUMBER_WIDTH, Self::OFFSET_WIDTH, t)
-    }
+    const OFFSET_WIDTH: u64 = 0;
+
+    ghost known = { refl };
+
+    ghost number_is = { refl };
+
+    ghost offset_is = { refl };
+
+    ghost shared = { refl };
 }
 
 // Encoding 2: a 30-bit number and a 16-bit offset.
 #[derive(Clone, Copy)]
-pub struct Encoding2 {}
+pub struct Encoding2;
 
-impl Encoding2 {
-    pub const ENCODING: u64 = 2;
+impl TokenEncoding for Encoding2 {
+    ghost ENCODING = { 2 };
 
-    pub const NUMBER_WIDTH: u64 = 30;
+    ghost NUMBER_WIDTH = { 30 };
 
-    pub const OFFSET_WIDTH: u64 = 16;
+    ghost OFFSET_WIDTH = { 16 };
 
-    pub fn fits(n: Named) -> bool
-        ensures { result ≡ fits_as 2 n }
-    {
-        fits_in(Self::NUMBER_WIDTH, Self::OFFSET_WIDTH, n)
-    }
+    const ENCODING: u64 = 2;
 
-    pub fn packed(n: Named) -> u64
-        requires { NamedFits 2 n }
-        ensures { result ≡ token 2 n }
-    {
-        packed_in(Self::NUMBER_WIDTH, Self::OFFSET_WIDTH, Self::ENCODING, n)
-    }
+    const NUMBER_WIDTH: u64 = 30;
 
-    pub fn unpacked(t: u64) -> Named
-        ensures { result ≡ named_as 2 t }
-    {
-        unpacked_in(Self::NUMBER_WIDTH, Self::OFFSET_WIDTH, t)
-    }
+    const OFFSET_WIDTH: u64 = 16;
+
+    ghost known = { refl };
+
+    ghost number_is = { refl };
+
+    ghost offset_is = { refl };
+
+    ghost shared = { refl };
 }
 
 // Encoding 3: a 22-bit number and a 24-bit offset.
 #[derive(Clone, Copy)]
-pub struct Encoding3 {}
+pub struct Encoding3;
 
-impl Encoding3 {
-    pub const ENCODING: u64 = 3;
+impl TokenEncoding for Encoding3 {
+    ghost ENCODING = { 3 };
 
-    pub const NUMBER_WIDTH: u64 = 22;
+    ghost NUMBER_WIDTH = { 22 };
 
-    pub const OFFSET_WIDTH: u64 = 24;
+    ghost OFFSET_WIDTH = { 24 };
 
-    pub fn fits(n: Named) -> bool
-        ensures { result ≡ fits_as 3 n }
-    {
-        fits_in(Self::NUMBER_WIDTH, Self::OFFSET_WIDTH, n)
-    }
+    const ENCODING: u64 = 3;
 
-    pub fn packed(n: Named) -> u64
-        requires { NamedFits 3 n }
-        ensures { result ≡ token 3 n }
-    {
-        packed_in(Self::NUMBER_WIDTH, Self::OFFSET_WIDTH, Self::ENCODING, n)
-    }
+    const NUMBER_WIDTH: u64 = 22;
 
-    pub fn unpacked(t: u64) -> Named
-        ensures { result ≡ named_as 3 t }
-    {
-        unpacked_in(Self::NUMBER_WIDTH, Self::OFFSET_WIDTH, t)
-    }
+    const OFFSET_WIDTH: u64 = 24;
+
+    ghost known = { refl };
+
+    ghost number_is = { refl };
+
+    ghost offset_is = { refl };
+
+    ghost shared = { refl };
 }
 
 // The encoding that a token is in.
@@ -193,7 +210,9 @@ pub fn read(t: u64) -> Named
     }
 }
 
-// The token in encoding e that names n, for a caller who has shown that it fits.
+// The token in encoding e that names n, for a caller who has shown that it fits. An encoding is the number
+// that a request carries (the C interface): place 1 judges it, and a type for it would only be made there
+// to be taken apart here.
 pub fn packed(e: u64, n: Named) -> u64
     requires { (e < 4) × NamedFits e n }
     ensures { result ≡ token e n }
@@ -219,16 +238,12 @@ fn fits(e: u64, n: Named) -> bool
     }
 }
 
-// The token in the wanted encoding (0 to 3) that names n.
+// The token in the wanted encoding that names n; none if some part is too wide for its field.
 #[tactic(auto, using(crate::proofs::TokenLaws::fits_holds), unfolding(crate::specs::Token::packing))]
-pub fn pack(e: u64, n: Named) -> Packing
+pub fn pack(e: u64, n: Named) -> Option<u64>
     ensures { result ≡ packing e n }
 {
-    if fits(e, n) {
-        Packing::Token(packed(e, n))
-    } else {
-        Packing::TooWide
-    }
+    if fits(e, n) { Some(packed(e, n)) } else { None }
 }
 
 // The token of number n and a tag in the wanted encoding, offset zero.

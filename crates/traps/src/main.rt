@@ -3,46 +3,34 @@
 // and drop's number; and during the climb the total of free numbers.
 #![tactic(auto)]
 
-use operations::state::State;
-use rulings::reply::{Outcome, Reply, Tokens, refusal_of};
-use rulings::request::Way;
+use operations::state::{Outcome, State};
+use rulings::reply::refusal_of;
+use rulings::request::{Access, Create, Derive, Reset, Way};
 use std::io;
 use table::state::StateWords;
 
-// The state that a request handed back.
-fn after(r: Outcome) -> State {
-    let words = r.state;
-    State { words }
-}
-
+// The first token of an answer; 0, the root's, if it has none. (`session` has it too, and `read_one`: no program
+// stands on another.)
 fn first_token(r: Outcome) -> u64 {
-    let reply = r.reply;
-    match reply {
-        Reply::Granted { tokens, dropped: _ } => match tokens {
-            Tokens::None => 0,
-            Tokens::One(token) => token,
-            Tokens::Two(token, _) => token,
-        },
-        Reply::Filled { length: _ } => 0,
-        Reply::Refused(_) => 0,
+    match r.reply {
+        Ok(granted) => granted.first().unwrap_or(0),
+        Err(_) => 0,
     }
 }
 
-fn drop_number(reply: Reply) -> u64 {
-    match reply {
-        Reply::Granted { tokens: _, dropped } => dropped,
-        Reply::Filled { length: _ } => 0,
-        Reply::Refused(_) => 0,
+fn drop_number(r: Outcome) -> u64 {
+    match r.reply {
+        Ok(granted) => granted.dropped(),
+        Err(_) => 0,
     }
 }
 
 // Prints a line, and hands the state on.
 fn shown(rt: &impl Print, what: &str, r: Outcome) -> io::Result<State> {
-    let reply = r.reply;
-    let refusal = refusal_of(reply);
-    let number = drop_number(reply);
+    let refusal = refusal_of(r.reply);
+    let number = drop_number(r);
     println!(rt; "{what} {refusal} {number}")?;
-    Ok(after(r))
+    Ok(r.state)
 }
 
 // Prints the total of free numbers, and hands the state on.
@@ -54,16 +42,13 @@ fn polled(rt: &impl Print, s: State) -> io::Result<State> {
 
 fn read_one(s: State, table: &[u8], memory: &mut [u8], token: u64, task: u64) -> Outcome {
     let mut buffer = [0u8; 1];
-    s.access(
-        Way::Read,
-        table,
-        memory,
-        &mut buffer,
-        &table[..0],
+    let request = Access {
+        way: Way::Read,
         token,
         task,
-        0,
-    )
+        minute: 0,
+    };
+    s.access(table, memory, &mut buffer, &table[..0], request)
 }
 
 fn started(table: &mut [u8], memory: &[u8]) -> State {
@@ -76,18 +61,24 @@ fn started(table: &mut [u8], memory: &[u8]) -> State {
             total: 0,
         },
     };
-    let r = blank.reset(table, memory, 0, 0, 1);
-    after(r)
+    let request = Reset {
+        key0: 0,
+        key1: 0,
+        first_nonce: 1,
+    };
+    blank.reset(table, memory, request).state
 }
 
-// A child of the first eight bytes, with R.
-fn child(s: State, table: &mut [u8], memory: &[u8], parent: u64) -> Outcome {
-    s.derive(table, memory, parent, 0, 8, 4, 1)
-}
-
-// A child of that child.
-fn grandchild(s: State, table: &mut [u8], memory: &[u8], parent: u64) -> Outcome {
-    s.derive(table, memory, parent, 0, 7, 4, 1)
+// A child of the parent's first bytes, with R.
+fn child(s: State, table: &mut [u8], memory: &[u8], token: u64, length: u64) -> Outcome {
+    let request = Derive {
+        token,
+        offset: 0,
+        length,
+        permissions: 4,
+        encoding: 1,
+    };
+    s.derive(table, memory, request)
 }
 
 // Comparing the low 55 bits of a task: 2^55 + 7 is not 7.
@@ -107,26 +98,20 @@ fn low_bits(rt: &impl Print, table: &mut [u8], memory: &mut [u8]) -> io::Result<
 // A number given again does not revive a dead child, and a dead child can be dropped.
 fn given_again(rt: &impl Print, table: &mut [u8], memory: &mut [u8]) -> io::Result<()> {
     let s = started(table, memory);
-    let a = child(s, table, memory, 0);
-    let b = grandchild(after(a), table, memory, first_token(a));
-    let s = shown(
-        rt,
-        "drop the parent",
-        after(b).drop(table, memory, first_token(a)),
-    )?;
-    let s = shown(rt, "drop it again", s.drop(table, memory, first_token(a)))?;
-    let c = child(s, table, memory, 0);
-    let d = child(after(c), table, memory, 0);
+    let a = child(s, table, memory, 0, 8);
+    let first = first_token(a);
+    let b = child(a.state, table, memory, first, 7);
+    let second = first_token(b);
+    let s = shown(rt, "drop the parent", b.state.drop(table, memory, first))?;
+    let s = shown(rt, "drop it again", s.drop(table, memory, first))?;
+    let c = child(s, table, memory, 0, 8);
+    let d = child(c.state, table, memory, 0, 8);
     let s = shown(
         rt,
         "read through the dead child",
-        read_one(after(d), table, memory, first_token(b), 0),
+        read_one(d.state, table, memory, second, 0),
     )?;
-    shown(
-        rt,
-        "drop the dead child",
-        s.drop(table, memory, first_token(b)),
-    )?;
+    shown(rt, "drop the dead child", s.drop(table, memory, second))?;
     Ok(())
 }
 
@@ -142,53 +127,48 @@ fn plain_address(rt: &impl Print, table: &mut [u8], memory: &mut [u8]) -> io::Re
 // The climb of a drop: the last holder of a grandchild frees it, its parent and the root's count.
 fn climbed(rt: &impl Print, table: &mut [u8], memory: &mut [u8]) -> io::Result<()> {
     let s = started(table, memory);
-    let a = child(s, table, memory, 0);
-    let b = grandchild(after(a), table, memory, first_token(a));
-    let s = polled(rt, after(b))?;
+    let a = child(s, table, memory, 0, 8);
+    let first = first_token(a);
+    let b = child(a.state, table, memory, first, 7);
+    let second = first_token(b);
+    let s = polled(rt, b.state)?;
     let s = shown(
         rt,
         "drop the child at count 2",
-        s.drop(table, memory, first_token(a)),
+        s.drop(table, memory, first),
     )?;
-    let s = shown(
-        rt,
-        "drop the grandchild",
-        s.drop(table, memory, first_token(b)),
-    )?;
+    let s = shown(rt, "drop the grandchild", s.drop(table, memory, second))?;
     let s = polled(rt, s)?;
     let s = shown(
         rt,
         "read through the child",
-        read_one(s, table, memory, first_token(a), 0),
+        read_one(s, table, memory, first, 0),
     )?;
-    shown(
-        rt,
-        "create from the root",
-        s.create(table, memory, 0, 0, 16, 0, 7, 1),
-    )?;
+    let request = Create {
+        token: 0,
+        task: 0,
+        length: 16,
+        user: 0,
+        permissions: 7,
+        encoding: 1,
+    };
+    shown(rt, "create from the root", s.create(table, memory, request))?;
     Ok(())
 }
 
 // A lock under a drop: at count 1 nothing changes.
 fn locked(rt: &impl Print, table: &mut [u8], memory: &[u8]) -> io::Result<()> {
     let s = started(table, memory);
-    let a = child(s, table, memory, 0);
+    let a = child(s, table, memory, 0, 8);
+    let token = first_token(a);
     let s = shown(
         rt,
         "lock through the child",
-        after(a).lock(table, memory, first_token(a), 7),
+        a.state.lock(table, memory, token, 7),
     )?;
-    let s = shown(
-        rt,
-        "drop it under the lock",
-        s.drop(table, memory, first_token(a)),
-    )?;
+    let s = shown(rt, "drop it under the lock", s.drop(table, memory, token))?;
     let s = shown(rt, "unlock", s.unlock(table, memory, 0, 7))?;
-    shown(
-        rt,
-        "drop it unlocked",
-        s.drop(table, memory, first_token(a)),
-    )?;
+    shown(rt, "drop it unlocked", s.drop(table, memory, token))?;
     Ok(())
 }
 

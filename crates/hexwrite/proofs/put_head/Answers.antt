@@ -3,4 +3,4 @@ use Rattle.hexwrite.proofs.WriteLaws.{head-put}
 use Rattle.hexwrite.proofs.put_head.Goals as goal
 
 pub returns : goal.returns
-returns c = head-put c.args.kind c.args.address c.args.count c.put_char.ensures c.put_byte.ensures c.put_byte-2.ensures c.put_byte-3.ensures c.put_byte-4.ensures c.requires.1.0 c.requires.1.1
+returns c = head-put c.args.kind c.args.address c.args.count c.put_char.ensures c.put_byte.ensures c.put_byte-2.ensures c.put_byte-3.ensures c.put_byte-4.ensures

@@ -3,8 +3,8 @@ use Rattle.std.proofs.Common.{sym}
 use Rattle.checks.proofs.ShiftLaws.{closed-pass, closed-stop}
 use Rattle.accesses.proofs.access.check_closed.Goals as goal
 
-pub returns-in-Stop : goal.returns-in-Stop
-returns-in-Stop c = sym (closed-stop _ _ _ _ c.in-Stop.ensures)
+pub returns-in-Err : goal.returns-in-Err
+returns-in-Err c = sym (closed-stop _ _ _ _ c.in-Err.ensures)
 
-pub returns-in-Owner : goal.returns-in-Owner
-returns-in-Owner c = sym (closed-pass _ _ _ _ c.in-Owner.ensures.0)
+pub returns-in-Ok : goal.returns-in-Ok
+returns-in-Ok c = sym (closed-pass _ _ _ _ c.in-Ok.ensures.0)

@@ -9,5 +9,5 @@ use Rattle.altering.proofs.writes.begin.Goals as goal
 pub returns : goal.returns
 returns c =
     let w = c.issued_direct in
-    begin_left (state_as c.args.s) _ _ _ _ _ _ _ _ c.most_free-top.ensures c.clear.ensures
+    begin_left (state_as c.args.s.now) _ _ _ _ _ _ _ _ c.most_free-total.ensures c.clear.ensures
     (c.put_words.ensures _ (laid-words w.result (omega (arith, w.type_inv)) (laid_direct refl) w.ensures))

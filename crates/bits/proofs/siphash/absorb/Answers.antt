@@ -1,12 +1,15 @@
 -- `bits::siphash::absorb` meets its contract: each turn takes in one word more.
-use Rattle.std.proofs.Common.{rules}
+use Rattle.std.proofs.Common.{refl, ◌∙◌, ap, rules, arith, ◌≡◌, ◌/◌, length}
 use Rattle.bits.specs.SipHash.{absorb}
 use Rattle.bits.proofs.SipLaws.{absorb_more}
 use Rattle.bits.proofs.siphash.absorb.Goals as goal
 
-pub loop-i-init : goal.loop-i-init
+pub loop-word-init : goal.loop-word-init
 unfolding absorb
-loop-i-init c = search rules
+loop-word-init c = refl
 
-pub loop-i-preserved : goal.loop-i-preserved
-loop-i-preserved c = search (rules, absorb_more)
+pub loop-word-preserved : goal.loop-word-preserved
+loop-word-preserved c = search (rules, absorb_more)
+
+pub returns : goal.returns
+returns c = let e : c.loop-word.word-index ≡ length c.args.message.now / 8 = omega arith in c.loop-word.invariant ∙ ap (λ n. absorb n c.args.message.now c.args.v) e

@@ -1,11 +1,8 @@
--- `bits::slice::copy_long` meets its contract. The loop's invariant: so many bytes are copied.
+-- `bits::slice::copy_long` meets its contract. The loop's invariant: so many times 4,096 bytes are copied.
 use mathlib.Core.Path.{◌≡◌}
-use Prim.Native.Nat.{◌-◌, ◌≤◌}
-use lib.ListN.{length, take}
+use Prim.Native.Nat.{◌*◌}
+use lib.ListN.{take}
 use Rattle.bits.proofs.slice.copy_long.Given as goal
 
-abbrev pub invariant-loop-done : goal.invariant-loop-done
-invariant-loop-done l = (l.done ≤ length l.from) × ((take l.done l.to ≡ take l.done l.from) × (length l.to ≡ length l.from))
-
-abbrev pub decreases-loop-done : goal.decreases-loop-done
-decreases-loop-done l = length l.from - l.done
+abbrev pub invariant-loop-i : goal.invariant-loop-i
+invariant-loop-i l = take (4096 * l.i) l.to ≡ take (4096 * l.i) l.from

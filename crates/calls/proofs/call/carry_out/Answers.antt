@@ -7,6 +7,6 @@ pub returns : goal.returns
 returns c =
     let a = c.args in
     let x = c.read_state-words in
-    let r = c.serve-served in
-    let kept = stored-state c.leaves-left.result _ a.state.now _ _ _ x.result r.result _ _ _ _ (search rules) c.requires.0 x.ensures r.ensures (λ h σ b. c.leaves-left.ensures h σ b _) c.put_state.ensures in
-    step_carried _ _ _ _ _ a.answer.now x.result r.result _ _ _ _ _ _ x.ensures r.ensures kept c.write_answer.ensures
+    let r = c.serve-reply in
+    let kept = stored-state c.leaves.result _ a.state.now _ _ _ x.result r.new.s r.result _ _ _ _ (search rules) c.requires.0 x.ensures r.ensures (λ h σ b. c.leaves.ensures h σ b _) c.put_state.ensures in
+    step_carried _ _ _ _ _ a.answer.now x.result r.new.s r.result _ _ _ _ _ _ x.ensures r.ensures kept c.write_answer.ensures

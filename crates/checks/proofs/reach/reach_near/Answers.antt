@@ -3,4 +3,4 @@ use Rattle.checks.proofs.ReachLaws.{near_reaches}
 use Rattle.checks.proofs.reach.reach_near.Goals as goal
 
 pub returns-then-near : goal.returns-then-near
-returns-then-near c = near_reaches _ _ _ _ c.requires (c.near.ensures c.if-near.true)
+returns-then-near c = near_reaches _ _ _ _ c.args.token.reads (c.near.ensures c.if-near.true)

@@ -1,16 +1,16 @@
--- `hexread::record::known_in` meets its contract: a law for each way out.
+-- `hexread::record::known_in` meets its contract: a law for each kind of record.
 use Rattle.std.proofs.Common.{rules}
 use Rattle.hexread.proofs.LineLaws.{known-cases, known-long}
 use Rattle.hexread.proofs.record.known_in.Goals as goal
 
-pub returns-then-kind-eq0 : goal.returns-then-kind-eq0
-returns-then-kind-eq0 c = search (rules, known-cases)
+pub word-requires-in_default : goal.word-requires-in_default
+word-requires-in_default c = search (rules, known-long)
 
-pub returns-then-kind-eq1 : goal.returns-then-kind-eq1
-returns-then-kind-eq1 c = search (rules, known-cases)
+pub returns-in-0 : goal.returns-in-0
+returns-in-0 c = search (rules, known-cases)
 
-pub word-requires-2 : goal.word-requires-2
-word-requires-2 c = search (rules, known-long)
+pub returns-in-1 : goal.returns-in-1
+returns-in-1 c = search (rules, known-cases)
 
-pub returns : goal.returns
-returns c = search (rules, known-cases)
+pub returns-in_default : goal.returns-in_default
+returns-in_default c = search (rules, known-cases)

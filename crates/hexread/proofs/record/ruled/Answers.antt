@@ -12,11 +12,11 @@ returns-then-faulty c = search (rules, ruled-cases)
 pub returns-then-total-ne0 : goal.returns-then-total-ne0
 returns-then-total-ne0 c = search (rules, ruled-cases)
 
-pub returns-then-kind-eq0 : goal.returns-then-kind-eq0
-returns-then-kind-eq0 c = search (rules, ruled-cases)
+pub returns-in-0 : goal.returns-in-0
+returns-in-0 c = search (rules, ruled-cases)
 
-pub returns-then-kind-eq1 : goal.returns-then-kind-eq1
-returns-then-kind-eq1 c = search (rules, ruled-cases)
+pub returns-in-1 : goal.returns-in-1
+returns-in-1 c = search (rules, ruled-cases)
 
-pub returns : goal.returns
-returns c = search (rules, ruled-cases)
+pub returns-in_default : goal.returns-in_default
+returns-in_default c = search (rules, ruled-cases)

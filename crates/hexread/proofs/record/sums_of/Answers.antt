@@ -5,3 +5,6 @@ use Rattle.hexread.proofs.record.sums_of.Goals as goal
 
 pub loop-i-preserved : goal.loop-i-preserved
 loop-i-preserved c = search (rules, sums-cases)
+
+pub returns : goal.returns
+returns c = search (rules, sums-cases)

@@ -1,10 +1,6 @@
 -- The loop's invariant: the pairs before i are summed.
 use Rattle.hexread.proofs.ValueLaws.{Summing}
-use Rattle.std.proofs.Common.{◌-◌, ◌≤◌}
 use Rattle.hexread.proofs.record.sums_of.Given as goal
 
 abbrev pub invariant-loop-i : goal.invariant-loop-i
-invariant-loop-i l = Summing l.chars l.i l.high l.low × (l.i ≤ l.pairs)
-
-abbrev pub decreases-loop-i : goal.decreases-loop-i
-decreases-loop-i l = l.pairs - l.i
+invariant-loop-i l = Summing l.chars l.i l.high l.low

@@ -4,4 +4,4 @@ use Rattle.hexread.proofs.StoreLaws.{piece_some}
 use Rattle.hexread.proofs.store.store_piece.Goals as goal
 
 pub returns : goal.returns
-returns c = let f = c.requires.1.1.1 (omega arith) in search (rules, piece_some)
+returns c = let f = c.requires.1.1 (omega arith) in search (rules, piece_some)

@@ -6,8 +6,5 @@ use Rattle.hexread.proofs.text.raised.Goals as goal
 pub returns-then-count-eq0 : goal.returns-then-count-eq0
 returns-then-count-eq0 c = search (rules, raised-cases)
 
-pub returns-then-best-end : goal.returns-then-best-end
-returns-then-best-end c = search (rules, raised-cases)
-
 pub returns : goal.returns
 returns c = search (rules, raised-cases)

@@ -4,10 +4,12 @@ use Rattle.rulings.proofs.RulingLaws.{request-stops}
 use Rattle.images.proofs.ImageLaws.{dump-request}
 use Rattle.images.proofs.dump.check_dump.Goals as goal
 
-pub returns-then-set-task : goal.returns-then-set-task
-returns-then-set-task c = λ s b e.
-    c.dump_token.ensures s _ b (rw c.read-named.ensures at c.judge_leases-window.ensures) (sym (dump-request _ _ _ _ _ _ _) ∙ (rw (e, c.read-named.ensures, c.shift_fits.ensures) at c.if-set-task.true))
+pub returns-then-not-set-request : goal.returns-then-not-set-request
+returns-then-not-set-request c = λ s b e.
+    let token = c.from-token in
+    request-stops _ _ _ _ _ (sym (dump-request _ _ _ _ _ _ _) ∙ (rw (e, token.result.reads, token.ensures, c.shift_fits.ensures) at c.if-not-set-request.true))
 
-pub returns-else-set-task : goal.returns-else-set-task
-returns-else-set-task c = λ s b e.
-    request-stops _ _ _ _ _ (sym (dump-request _ _ _ _ _ _ _) ∙ (rw (e, c.read-named.ensures, c.shift_fits.ensures) at c.if-set-task.false))
+pub returns : goal.returns
+returns c = λ s b e.
+    let token = c.from-token in
+    (rw token.ensures at c.dump_token.ensures) s _ b (rw (token.result.reads, token.ensures) at c.judge_leases-window.ensures) (sym (dump-request _ _ _ _ _ _ _) ∙ (rw (e, token.result.reads, token.ensures, c.shift_fits.ensures) at c.if-not-set-request.false))

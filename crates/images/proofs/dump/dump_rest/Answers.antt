@@ -1,19 +1,15 @@
 -- `images::dump::dump_rest` meets its contract: a law for each way out.
-use Rattle.std.proofs.Common.{◌≡◌, true, false, sym, ◌∙◌}
-use Rattle.tokens.specs.Permissions.{R, within}
 use Rattle.machine.specs.Requests.{reading}
-use Rattle.accesses.proofs.AccessLaws.{right_held}
+use Rattle.accesses.proofs.AccessLaws.{held_as}
 use Rattle.images.proofs.ImageLaws.{dump-held, dump_right}
 use Rattle.images.proofs.dump.dump_rest.Goals as goal
 
-pub returns-then-holds : goal.returns-then-holds
-returns-then-holds c =
+pub returns-then-not-holds : goal.returns-then-not-holds
+returns-then-not-holds c =
     let e = c.entry_at-e in
-    let w : within R e.result.permissions ≡ true = sym (c.holds.ensures ∙ right_held reading e.result.permissions) ∙ c.if-holds.true in
-    λ m u s φ b. (dump-held m s _ _ u φ b _ e.result c.requires.named_value e.ensures w, (rw (e.ensures, c.requires.named_value), rw (e.ensures, c.requires.named_value)))
+    λ m u s φ b. dump_right m s _ _ u φ b _ e.result c.args.token.reads e.ensures (held_as reading _ c.holds.ensures c.if-not-holds.true)
 
-pub returns-else-holds : goal.returns-else-holds
-returns-else-holds c =
+pub returns : goal.returns
+returns c =
     let e = c.entry_at-e in
-    let w : within R e.result.permissions ≡ false = sym (c.holds.ensures ∙ right_held reading e.result.permissions) ∙ c.if-holds.false in
-    λ m u s φ b. dump_right m s _ _ u φ b _ e.result c.requires.named_value e.ensures w
+    λ m u s φ b. (dump-held m s _ _ u φ b _ e.result c.args.token.reads e.ensures (held_as reading _ c.holds.ensures c.if-not-holds.false), (rw (c.from.ensures.0, e.ensures, c.args.token.reads), rw (c.from.ensures.1, e.ensures, c.args.token.reads)))

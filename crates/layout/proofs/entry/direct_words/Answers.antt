@@ -5,4 +5,4 @@ use Rattle.layout.proofs.entry.direct_words.Goals as goal
 
 pub returns : goal.returns
 unfolding words_number
-returns c = direct-words c.args.e c.field_word.ensures c.middle_word.ensures c.user_word.ensures c.last_word.ensures
+returns c = direct-words c.args.e (rw (c.from-length.ensures, c.from.ensures) at c.three_fields.ensures) (rw (c.from-length.ensures, c.from-2.ensures) at c.three_fields-2.ensures) c.two_fields.ensures c.last_word.ensures

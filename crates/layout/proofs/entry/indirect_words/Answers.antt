@@ -5,4 +5,4 @@ use Rattle.layout.proofs.entry.indirect_words.Goals as goal
 
 pub returns : goal.returns
 unfolding words_number
-returns c = indirect-words c.args.e c.field_word.ensures c.indirect_b.ensures c.middle_word.ensures c.last_word.ensures
+returns c = indirect-words c.args.e (rw c.from.ensures at c.three_fields.ensures) (rw (c.low.ensures.value, c.from-length.ensures) at c.two_fields.ensures) (rw (c.from-length.ensures, c.from-2.ensures) at c.three_fields-2.ensures) c.last_word.ensures

@@ -5,4 +5,4 @@ use Rattle.layout.proofs.entry.paged_words.Goals as goal
 
 pub returns : goal.returns
 unfolding words_number
-returns c = paged-words c.args.e c.paged_a.ensures c.field_word.ensures c.user_word.ensures c.last_word.ensures
+returns c = paged-words c.args.e c.two_fields.ensures (rw c.from.ensures at c.three_fields.ensures) c.two_fields-2.ensures c.last_word.ensures

@@ -1,10 +1,6 @@
--- The loop's invariant: what the first i leases come to.
-use Rattle.std.proofs.Common.{◌≡◌, ◌/◌, ◌-◌, ◌≤◌, length}
+-- The loop's invariant: what the leases before the next come to.
 use Rattle.leases.proofs.JudgeLaws.{Seen}
 use Rattle.leases.proofs.lease.judge_leases.Given as goal
 
-abbrev pub invariant-loop-i : goal.invariant-loop-i
-invariant-loop-i l = (l.count ≡ length l.leases / 8) × (l.i ≤ l.count) × Seen l.leases l.number l.tag l.minute l.i l.sound l.held l.admitted
-
-abbrev pub decreases-loop-i : goal.decreases-loop-i
-decreases-loop-i l = l.count - l.i
+abbrev pub invariant-loop-bytes : goal.invariant-loop-bytes
+invariant-loop-bytes l = Seen l.leases l.number l.tag l.minute l.bytes-index l.sound l.held l.admitted

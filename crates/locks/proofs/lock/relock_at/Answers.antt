@@ -4,4 +4,4 @@ use Rattle.locks.proofs.LockLaws.{relock_left}
 use Rattle.locks.proofs.lock.relock_at.Goals as goal
 
 pub returns : goal.returns
-returns c = relock_left _ _ _ _ _ (entry_of (words_number c.words_at.result)) _ _ c.words_at.ensures c.relock.ensures c.plain.ensures
+returns c = λ s. relock_left s _ _ _ _ (entry_of (words_number c.words_at.result)) _ _ c.words_at.ensures c.relock.ensures c.plain.ensures

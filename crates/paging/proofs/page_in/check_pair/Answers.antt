@@ -8,8 +8,8 @@ returns-then-not-e-d c = λ m s t j k u x b e d n. pair_kind _ _ _ _ _ _ _ _ _ _
 pub returns-then-not-bytes-e : goal.returns-then-not-bytes-e
 returns-then-not-bytes-e c = λ m s t j k u x b e d n. pair-bounds _ _ _ _ _ _ _ _ _ _ _ e d n c.if-not-e-d.false c.if-not-bytes-e.true
 
-pub returns-then-d : goal.returns-then-d
-returns-then-d c = λ m s t j k u x b e d n. pair-pass _ _ _ _ _ _ _ _ _ _ _ e d n c.if-not-e-d.false c.if-not-bytes-e.false c.if-d.true
+pub returns-then-not-d : goal.returns-then-not-d
+returns-then-not-d c = λ m s t j k u x b e d n. pair_standing _ _ _ _ _ _ _ _ _ _ _ e d n c.if-not-e-d.false c.if-not-bytes-e.false c.if-not-d.true
 
-pub returns-else-d : goal.returns-else-d
-returns-else-d c = λ m s t j k u x b e d n. pair_standing _ _ _ _ _ _ _ _ _ _ _ e d n c.if-not-e-d.false c.if-not-bytes-e.false c.if-d.false
+pub returns : goal.returns
+returns c = λ m s t j k u x b e d n. pair-pass _ _ _ _ _ _ _ _ _ _ _ e d n c.if-not-e-d.false c.if-not-bytes-e.false c.if-not-d.false

@@ -1,35 +1,27 @@
 -- `references::derive::check_derive` meets its contract: one law for each way out.
-use Rattle.std.proofs.Common.{◌≡◌, sym, ◌∙◌, Bool, not, ◌&&◌, List, [], ℕ, eqb, leb}
-use Rattle.tokens.specs.Token.{named}
-use Rattle.tokens.specs.declared.token.Named.{Named}
-use Rattle.machine.specs.Parts.{State}
-use Rattle.machine.specs.Requests.{derive}
-use Rattle.checks.specs.Holds.{request_holds, settings_hold}
+use Rattle.std.proofs.lemmas.Result.{err_from_is_err_and}
 use Rattle.checks.proofs.ReachLaws.{live_in}
 use Rattle.rulings.proofs.RulingLaws.{front_inner, front-request, front-token}
-use Rattle.references.proofs.DeriveLaws.{derive-limits, derive-request, derive-token}
+use Rattle.references.proofs.DeriveLaws.{derive-asked, derive-limits, derive-token}
 use Rattle.references.proofs.derive.check_derive.Goals as goal
 
--- place 1, as the test says
-asked : (m : ℕ) (s : State) (t : List ℕ) (k o l p c : ℕ) (n : Named) (set b : Bool) → n ≡ named k → set ≡ settings_hold m s t
-    → (set && leb c 3 && leb p 7 && not (eqb l 0) && eqb n.offset 0) ≡ b → request_holds m s t (derive k o l p c) [] ≡ b
-asked m s t k o l p c n set b is setting h = sym (derive-request m s t k o l p c n is) ∙ rw setting at h
-
 pub check_part-requires-clause-limits : goal.check_part-requires-clause-limits
-check_part-requires-clause-limits c = derive-limits _ _ _ _ _ _ _ _ (asked _ _ _ _ c.args.offset _ _ _ _ _ _ c.requires c.settings.ensures c.if-settings-encoding.true)
+check_part-requires-clause-limits c = derive-limits _ _ _ _ _ _ _ _ (derive-asked _ _ _ _ c.args.request.offset _ _ _ _ _ _ c.args.token.reads c.settings.ensures c.if-not-settings-request.false)
 
 pub check_part-requires-clause-token_bound : goal.check_part-requires-clause-token_bound
-check_part-requires-clause-token_bound c = live_in _ _ _ c.in-Owner.ensures.0
+check_part-requires-clause-token_bound c = live_in _ _ _ c.in_ok-reach_near.ensures.0
 
-pub returns-in-Stop : goal.returns-in-Stop
-returns-in-Stop c =
-    front-token _ _ _ _ _ (asked _ _ _ _ c.args.offset _ _ _ _ _ _ c.requires c.settings.ensures c.if-settings-encoding.true) (derive-token _ _ _ _ _ _ _ _ c.in-Stop.ensures)
+pub returns-then-not-settings-request : goal.returns-then-not-settings-request
+returns-then-not-settings-request c = front-request _ _ _ _ _ (derive-asked _ _ _ _ c.args.request.offset _ _ _ _ _ _ c.args.token.reads c.settings.ensures c.if-not-settings-request.true)
 
-pub returns-in-Owner : goal.returns-in-Owner
-returns-in-Owner c =
+pub returns-in_err-reach_near : goal.returns-in_err-reach_near
+returns-in_err-reach_near c =
+    let p = err_from_is_err_and c.from_residual.result c.from_residual.ensures.1 in
+    rw (p.1, p.2)
+    (front-token _ _ _ _ _ (derive-asked _ _ _ _ c.args.request.offset _ _ _ _ _ _ c.args.token.reads c.settings.ensures c.if-not-settings-request.false) (derive-token _ _ _ _ _ _ _ _ c.in_err-reach_near.ensures))
+
+pub returns : goal.returns
+returns c =
     rw
-    (front_inner _ _ _ _ _ (asked _ _ _ _ c.args.offset _ _ _ _ _ _ c.requires c.settings.ensures c.if-settings-encoding.true) (derive-token _ _ _ _ _ _ _ _ c.in-Owner.ensures.0))
-    (c.check_part.ensures _ _)
-
-pub returns-else-settings-encoding : goal.returns-else-settings-encoding
-returns-else-settings-encoding c = front-request _ _ _ _ _ (asked _ _ _ _ c.args.offset _ _ _ _ _ _ c.requires c.settings.ensures c.if-settings-encoding.false)
+    (front_inner _ _ _ _ _ (derive-asked _ _ _ _ c.args.request.offset _ _ _ _ _ _ c.args.token.reads c.settings.ensures c.if-not-settings-request.false) (derive-token _ _ _ _ _ _ _ _ c.in_ok-reach_near.ensures.0))
+    (c.check_part.ensures _)

@@ -1,34 +1,27 @@
 -- `segments::revoke::check_revoke` meets its contract: a law for each way out.
-use Rattle.std.proofs.Common.{◌≡◌, sym, ◌∙◌, Bool, ◌&&◌, [], eqb, leb, List, ℕ}
-use Rattle.tokens.specs.Token.{named}
-use Rattle.tokens.specs.declared.token.Named.{Named}
-use Rattle.checks.specs.Holds.{request_holds, settings_hold}
+use Rattle.std.proofs.Common.{sym}
+use Rattle.std.proofs.lemmas.Result.{err_from_is_err_and}
 use Rattle.checks.proofs.ReachLaws.{live_in}
-use Rattle.machine.specs.Parts.{State}
-use Rattle.machine.specs.Requests.{revoke}
 use Rattle.rulings.proofs.RulingLaws.{front-request, front-token}
-use Rattle.segments.proofs.RevokeLaws.{revoke-direct, revoke_kind, revoke-request, revoke-token}
+use Rattle.segments.proofs.RevokeLaws.{revoke-asked, revoke-direct, revoke_kind, revoke-token}
 use Rattle.segments.proofs.revoke.check_revoke.Goals as goal
 
--- place 1, as the test says
-asked : (m : ℕ) (s : State) (t : List ℕ) (k c : ℕ) (n : Named) (set b : Bool) → n ≡ named k → set ≡ settings_hold m s t
-    → (set && leb c 3 && eqb n.offset 0) ≡ b → request_holds m s t (revoke k c) [] ≡ b
-asked m s t k c n set b is setting h = sym (revoke-request m s t k c n is) ∙ rw setting at h
+pub returns-then-not-settings-encoding : goal.returns-then-not-settings-encoding
+returns-then-not-settings-encoding c = sym (front-request _ _ _ _ _ (revoke-asked _ _ _ _ _ _ c.args.token.reads c.settings.ensures c.if-not-settings-encoding.true))
+
+pub returns-in_err-reach_near : goal.returns-in_err-reach_near
+returns-in_err-reach_near c =
+    let p = err_from_is_err_and c.from_residual.result c.from_residual.ensures.1 in
+    rw (p.1, p.2)
+    (sym (front-token _ _ _ _ _ (revoke-asked _ _ _ _ _ _ c.args.token.reads c.settings.ensures c.if-not-settings-encoding.false) (revoke-token _ _ _ _ _ c.in_err-reach_near.ensures)))
 
 pub entry_at-e-requires : goal.entry_at-e-requires
-entry_at-e-requires c = rw c.read-named.ensures (live_in _ _ _ c.in-Owner.ensures.0)
+entry_at-e-requires c = rw c.args.token.reads (live_in _ _ _ c.in_ok-reach_near.ensures.0)
 
-pub returns-in-Stop : goal.returns-in-Stop
-returns-in-Stop c =
-    sym (front-token _ _ _ _ _ (asked _ _ _ _ _ _ _ _ c.read-named.ensures c.settings.ensures c.if-settings-encoding.true) (revoke-token _ _ _ _ _ c.in-Stop.ensures))
+pub returns-then-e-ne-DIRECT : goal.returns-then-e-ne-DIRECT
+returns-then-e-ne-DIRECT c =
+    sym (revoke_kind _ _ _ _ _ _ _ c.args.token.reads c.entry_at-e.ensures (revoke-asked _ _ _ _ _ _ c.args.token.reads c.settings.ensures c.if-not-settings-encoding.false) c.in_ok-reach_near.ensures.0 c.if-e-ne-DIRECT.true)
 
-pub returns-then-e-eq1 : goal.returns-then-e-eq1
-returns-then-e-eq1 c =
-    sym (revoke-direct _ _ _ _ _ _ _ c.read-named.ensures c.entry_at-e.ensures (asked _ _ _ _ _ _ _ _ c.read-named.ensures c.settings.ensures c.if-settings-encoding.true) c.in-Owner.ensures.0 c.if-e-eq1.true)
-
-pub returns-else-e-eq1 : goal.returns-else-e-eq1
-returns-else-e-eq1 c =
-    sym (revoke_kind _ _ _ _ _ _ _ c.read-named.ensures c.entry_at-e.ensures (asked _ _ _ _ _ _ _ _ c.read-named.ensures c.settings.ensures c.if-settings-encoding.true) c.in-Owner.ensures.0 c.if-e-eq1.false)
-
-pub returns-else-settings-encoding : goal.returns-else-settings-encoding
-returns-else-settings-encoding c = sym (front-request _ _ _ _ _ (asked _ _ _ _ _ _ _ _ c.read-named.ensures c.settings.ensures c.if-settings-encoding.false))
+pub returns : goal.returns
+returns c =
+    sym (revoke-direct _ _ _ _ _ _ _ c.args.token.reads c.entry_at-e.ensures (revoke-asked _ _ _ _ _ _ c.args.token.reads c.settings.ensures c.if-not-settings-encoding.false) c.in_ok-reach_near.ensures.0 c.if-e-ne-DIRECT.false)

@@ -1,6 +1,5 @@
 -- `table::cut::cut_at` meets its contract: the part has 32 bytes.
 use Rattle.std.proofs.Common.{◌≡◌, ◌*◌, ◌/◌, ap, arith}
-use native.Mathlib.Nat.{add-sub_cancel_left}
 use Rattle.layout.specs.Entry.{entry_of}
 use Rattle.machine.specs.Parts.{size}
 use Rattle.machine.proofs.TableLaws.{at_in}
@@ -13,5 +12,5 @@ returns c =
     let p = c.requires in
     let whole : 32 * (a.byte / 32) ≡ a.byte = omega arith in (
       c.read_cut.ensures.0,
-      rw (at_in a.table.now (a.byte / 32) (omega arith), whole) (ap entry_of (rw add-sub_cancel_left at c.read_cut.ensures.1)),
+      rw (at_in a.table.now (a.byte / 32) (omega arith), whole) (ap entry_of (rw c.part_at.ensures at c.read_cut.ensures.1)),
     )

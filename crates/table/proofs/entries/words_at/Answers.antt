@@ -1,5 +1,4 @@
 -- `table::entries::words_at` meets its contract: the part has 32 bytes.
-use native.Mathlib.Nat.{add-sub_cancel_left}
 use Rattle.std.proofs.Common.{ap, arith}
 use Rattle.layout.specs.Entry.{entry_of}
 use Rattle.machine.specs.Parts.{size}
@@ -8,4 +7,4 @@ use Rattle.table.proofs.entries.words_at.Goals as goal
 
 pub returns : goal.returns
 unfolding size
-returns c = rw (at_in c.args.table.now c.args.n (omega arith)) (ap entry_of (rw add-sub_cancel_left at c.read_words.ensures))
+returns c = rw (at_in c.args.table.now c.args.n (omega arith)) (ap entry_of (rw c.part_at.ensures at c.read_words.ensures))
