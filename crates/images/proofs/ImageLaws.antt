@@ -5,12 +5,12 @@ use mathlib.Core.Bool.{true, false, true≢false, ◌&&◌, cond}
 use mathlib.Core.List.{List, [], ◌∷◌, ◌++◌}
 use Rattle.std.specs.Prelude.{Result, Ok, Err, IsErrAnd, MatchResult}
 use Rattle.std.proofs.lemmas.Result.{err_from_is_err_and}
-use Prim.Native.Nat.{ℕ, ◌+◌, ◌-◌, ◌^◌, ◌≤◌}
+use Prim.Native.Nat.{ℕ, ◌+◌, ◌-◌, ◌^◌, ◌≤◌, ◌<◌}
 use native.Mathlib.Nat.{add-sub_cancel_left}
 use native.Mathlib.Omega.{arith}
 use lib.Dec.{eqb, leb, ltb}
 use lib.ListN.{drop, length, length-drop, length-take, take}
-use borrow.Author.Tests.{leb-true}
+use borrow.Author.Tests.{le-leb, leb-true, lt-leb}
 use borrow.Rule.Slice.PartMut.{put_mid}
 use Rattle.hexfile.specs.Accounted as claim
 use Rattle.hexfile.specs.Text.{farthest, loads, Piece, refused, Said, said}
@@ -122,6 +122,9 @@ stored_back a n b m ys h f e = by (said b) f e
     by (refused k) f e = absurd f
     by (loads ps) f e = rw (e, add-sub_cancel_left) (sym (stored-part a n ps m h f))
 
+pub fits_as_lem : (a n : ℕ) (b m : List ℕ) → a + n ≤ length m → Fits (said b) n → Fits (said b) (length (take (a + n - a) (drop a m)))
+fits_as_lem a n b m h f = let long : length (take (a + n - a) (drop a m)) ≡ n = simp (add-sub_cancel_left, length-take, length-drop) (omega arith) in rw long f
+
 -- ---- a load
 
 module _ (m : ℕ) (s : State) (t : List ℕ) (k u : ℕ) (φ : Shift) (b : List ℕ) where
@@ -188,6 +191,12 @@ unfolding granting
 load-handed m s t k u φ b h = decided-pass m (state_as s) t (load k u φ) b (handed s t (Ok (filling_so 0))) refl h
 
 -- ---- a dump
+
+pub room_some : (n room : ℕ) {w : ℕ} → n ≤ 23820 → w ≡ written_length n → leb w room ≡ (leb (written_length n) 65536 && leb (written_length n) room)
+room_some n room h e = rw (e, le-leb (written_length n) 65536 (omega arith))
+
+pub room_none : (n room : ℕ) → 23820 < n → false ≡ (leb (written_length n) 65536 && leb (written_length n) room)
+room_none n room h = rw (lt-leb (written_length n) 65536 (omega arith))
 
 module _ (m : ℕ) (s : State) (t : List ℕ) (k u : ℕ) (φ : Shift) (b : List ℕ) where
   module _ (n : Named) (e : Entry) (is : n ≡ named k) (there : e ≡ at t n.number) where

@@ -58,7 +58,7 @@ any false false true true x y = refl
 module _ (m : ℕ) (s : State) (t : List ℕ) (q : Merge) where
   module _ (a b : Token) (is_first : a.word ≡ q.first) (is_second : b.word ≡ q.second) where
     -- place 1, as the code's test says
-    merge-request : (settings_hold m s t && ltb q.task (2 ^ 55) && leb q.encoding 3 && eqb a.named.offset 0 && eqb b.named.offset 0) ≡ request_holds m s t (merge_as q) []
+    pub merge-request : (settings_hold m s t && ltb q.task (2 ^ 55) && leb q.encoding 3 && eqb a.named.offset 0 && eqb b.named.offset 0) ≡ request_holds m s t (merge_as q) []
     unfolding settings_hold request_holds
     merge-request = rw (a.reads, b.reads, is_first, is_second)
 

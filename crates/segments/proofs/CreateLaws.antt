@@ -56,7 +56,7 @@ neither false false = refl
 
 module _ (m : ℕ) (s : State) (t : List ℕ) (x : Token) (q : Create) where
   -- place 1, as the code's test says; every user that there is fits
-  create-request : q.user < 2 ^ 64
+  pub create-request : q.user < 2 ^ 64
       → (settings_hold m s t && ltb q.task (2 ^ 55) && leb q.encoding 3 && leb q.permissions 7 && not (eqb q.length 0) && eqb x.named.offset 0) ≡ request_holds m s t (create_with x q) []
   unfolding settings_hold request_holds
   create-request user =

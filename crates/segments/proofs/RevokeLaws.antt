@@ -40,7 +40,7 @@ use Rattle.segments.proofs.SegmentLaws.{leaving}
 
 module _ (m : ℕ) (s : State) (t : List ℕ) (k c : ℕ) where
   -- place 1, with the token read as n, as the code's test says
-  revoke-request : (n : Named) → n ≡ named k → (settings_hold m s t && leb c 3 && eqb n.offset 0) ≡ request_holds m s t (revoke k c) []
+  pub revoke-request : (n : Named) → n ≡ named k → (settings_hold m s t && leb c 3 && eqb n.offset 0) ≡ request_holds m s t (revoke k c) []
   unfolding settings_hold request_holds
   revoke-request n is = rw is
 
